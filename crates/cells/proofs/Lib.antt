@@ -1,0 +1,3 @@
+pub mod Propagation
+pub mod Exactly
+pub mod Cells

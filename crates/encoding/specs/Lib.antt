@@ -1,0 +1,14 @@
+pub mod Ranges
+pub mod Tables
+pub mod Plans
+pub mod Limits
+pub mod Variables
+pub mod Clauses
+pub mod Labels
+pub mod Counts
+pub mod Values
+pub mod Listed
+pub mod Pitfalls
+pub mod Theorem
+pub mod Turns
+pub mod Chains

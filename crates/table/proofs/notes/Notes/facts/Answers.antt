@@ -1,0 +1,11 @@
+-- An action beyond the places has no notes.
+-- Assumes nothing.
+use mathlib.Core.Path.{_≡_, sym, ap, _∙_}
+use Rattle.table.specs.declared.marks.Marks.{Marks}
+use Rattle.table.specs.Memory.{marked, noMarks}
+use Rattle.std.proofs.shelf.Lists.{getD-past}
+use Rattle.table.proofs.notes.Notes.facts.Needs as need
+
+pub returns-else-place-rows : need.returns-else-place-rows
+returns-else-place-rows c p =
+    c .none .ensures p ∙ sym (ap (λ (s : Marks 33). marked s p) (getD-past (c .args .self .now .of) (c .args .action) noMarks (c .if-place-rows .left)))

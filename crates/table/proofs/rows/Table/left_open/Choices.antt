@@ -1,0 +1,11 @@
+-- None of the numbers passed is an open action.
+-- Assumes nothing.
+use mathlib.Core.Path.{_≡_}
+use Rattle.std.specs.declared.option.Option.the-variants.{None}
+use Rattle.table.specs.Model.{meant}
+use Rattle.table.specs.States.{stateOf}
+use Rattle.table.specs.Verdicts.{lowest}
+use Rattle.table.proofs.rows.Table.left_open.Given as given
+
+abbrev pub Inv-loop-i : given.InvT-loop-i
+Inv-loop-i l = lowest (l .i) (stateOf (l .state) .isOpen) ≡ None

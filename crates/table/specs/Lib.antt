@@ -1,0 +1,9 @@
+pub mod Roles
+pub mod Faults
+pub mod Memory
+pub mod Entries
+pub mod Meaning
+pub mod Calls
+pub mod Model
+pub mod States
+pub mod Verdicts
