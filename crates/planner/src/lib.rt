@@ -5,10 +5,12 @@
 
 mod drafts;
 mod jobs;
+mod laws;
 mod rehearsal;
 
 pub use drafts::Draft;
 pub use jobs::Job;
+pub use laws::histories_stand;
 pub use rehearsal::rehearse;
 pub use rehearsal::state_after;
 

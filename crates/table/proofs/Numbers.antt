@@ -32,6 +32,22 @@ pub same-role : (s r : Role) → sameRole s r ≡ true → s ≡ r
 unfolding valued
 same-role s r h = ap (λ o. valued o r) (sym (role-back s) ∙ ap roleOf (eqb-true (numberOf s) (numberOf r) h) ∙ role-back r)
 
+-- a number that names a role is the role's number
+
+first-role : (n : ℕ) (r : Role) (k : ℕ) (s : Role) (o : Option Role) → numberOf s ≡ k → cond (eqb n k) (Some s) o ≡ Some r → (o ≡ Some r → numberOf r ≡ n) → numberOf r ≡ n
+unfolding valued
+first-role n r k s o u h later = go (eqb n k) refl h where
+  go : (b : Bool) → eqb n k ≡ b → cond b (Some s) o ≡ Some r → numberOf r ≡ n
+  go true e w = sym (ap (λ x. numberOf (valued x r)) w) ∙ u ∙ sym (eqb-true n k e)
+  go false e w = later w
+
+pub role-number : (n : ℕ) (r : Role) → roleOf n ≡ Some r → numberOf r ≡ n
+role-number n r h =
+    first-role n r 1 Initial _ refl h (λ h. first-role n r 2 Goal _ refl h (λ h. first-role n r 3 StartNeeds _ refl h
+    (λ h. first-role n r 4 StartAdds _ refl h (λ h. first-role n r 5 StartDeletes _ refl h (λ h. first-role n r 6 EndNeeds _ refl h
+    (λ h. first-role n r 7 EndAdds _ refl h (λ h. first-role n r 8 EndDeletes _ refl h (λ h. first-role n r 9 Held _ refl h
+    (λ h. absurd (let z : _≡_ {A = ℕ} 0 1 = cc in omega arith))))))))))
+
 pub number-small : (r : Role) → numberOf r < 10
 number-small Initial = omega arith
 number-small Goal = omega arith
