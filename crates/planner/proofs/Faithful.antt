@@ -28,9 +28,10 @@ with-call E (note r a p) = record { facts = E .facts; actions = E .actions; note
 -- calls on top of a table
 unfoldable over : Entries → List DraftCall → Entries
 over E cs = record {
-    facts = lastFacts (E .facts) cs;
-    actions = lastActions (E .actions) cs;
-    noted = λ s b q. E .noted s b q || noted cs s b q }
+  facts = lastFacts (E .facts) cs;
+  actions = lastActions (E .actions) cs;
+  noted = λ s b q. E .noted s b q || noted cs s b q;
+}
 
 after-granted : {F : Type 0} (x : Result (Unit {0}) F) (E U V : Entries) → (isOk x ≡ true → U ≡ V) → calls.granted x E U ≡ cond (isOk x) V E
 after-granted (Ok u) E U V h = h refl
