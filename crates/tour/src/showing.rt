@@ -79,7 +79,8 @@ fn show_facts(rt: &LibcRuntime, state: &State) -> io::Result<()> {
     println!(rt, "")
 }
 
-fn show_refusal(rt: &LibcRuntime, code: Code) -> io::Result<()> {
+/// Shows a refusal: its number in 4 columns and its figures in 7 each.
+pub fn show_refusal(rt: &LibcRuntime, code: Code) -> io::Result<()> {
     let number = code.number;
     let first = code.first;
     let second = code.second;

@@ -1,0 +1,14 @@
+pub mod Bad
+pub mod Shapes
+pub mod Render
+pub mod Reading
+pub mod Law
+pub mod Parts
+pub mod Joins
+pub mod Letters
+pub mod Steps
+pub mod Rows
+pub mod Walks
+pub mod Codes
+pub mod Runs
+pub mod Once

@@ -1,0 +1,11 @@
+pub mod Texts
+pub mod Numbers
+pub mod Columns
+pub mod Tags
+pub mod Documents
+pub mod Reading
+pub mod Places
+pub mod Faults
+pub mod Outcomes
+pub mod Ends
+pub mod Stops
