@@ -16,26 +16,28 @@ pub(crate) enum Column {
     Digits(u16),
 }
 
+// A blank may stand in all columns but the last, before the first digit.
+fn blank(i: usize) -> Result<Column, usize>
+    ensures { λ r. ⌜ r ≡ column i OnlyBlanks 32 ⌝ }
+{
+    if i < 3 { Ok(Column::Blanks) } else { Err(i) }
+}
+
+// A number begins with the digit 0 in the last column only.
+fn zero(i: usize) -> Result<Column, usize>
+    ensures { λ r. ⌜ r ≡ column i OnlyBlanks 48 ⌝ }
+{
+    if i < 3 { Err(i) } else { Ok(Column::Digits(0)) }
+}
+
 // What the columns hold with `b` in column `i`; or `i`, if no number has this byte there.
 fn digit(at: Column, i: usize, b: u8) -> Result<Column, usize>
     requires { ⌜ i < 4 ⌝ ∗ ⌜ Within i at ⌝ }
     ensures { λ r. ⌜ r ≡ column i at b ⌝ }
 {
     match (at, b) {
-        (Column::Blanks, b' ') => {
-            if i < 3 {
-                Ok(Column::Blanks)
-            } else {
-                Err(i)
-            }
-        }
-        (Column::Blanks, b'0') => {
-            if i < 3 {
-                Err(i)
-            } else {
-                Ok(Column::Digits(0))
-            }
-        }
+        (Column::Blanks, b' ') => blank(i),
+        (Column::Blanks, b'0') => zero(i),
         (Column::Blanks, b'1'..=b'9') => Ok(Column::Digits(u16::from(b - b'0'))),
         (Column::Digits(n), b'0'..=b'9') => Ok(Column::Digits(10 * n + u16::from(b - b'0'))),
         _ => Err(i),

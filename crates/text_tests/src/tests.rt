@@ -6,7 +6,9 @@ use refusal::Code;
 use refusal::CodeDebug;
 use refusal::CodePartialEq;
 use refusal::Fault;
+use refusal::Refusal;
 use table::NoteFaultFault;
+use text::RefusalFromTable;
 use text::TableFaultFault;
 use text::read_table;
 
@@ -158,4 +160,25 @@ fn example() -> Result<(), Fail> {
     check_eq(reading(b"SZ   2   2   2\nGO   2\nSA   1   1\nED   1   1\nEA   2   2\n"), code(18, 5, 2, 0))?;
     check_eq(reading(b"SZ   2   2   2\nGO   2\nSA   1   1\nEA   2   2\nED   1   1\nED   1   1\nZZ\n"), code(20, 6, 0, 6))?;
     check_eq(reading(b"SZ   2   2   2\nGO   2\nSA   1   1\nEA   2   2\nED   1   1\nHD   2   1\n"), code(18, 7, 1, 0))
+}
+
+// A fault of a table text becomes a refusal on its way up.
+fn steps_of(text: &[u8]) -> Result<u32, Refusal> {
+    let mut draft = Draft::new();
+    let (steps, _) = read_table(&mut draft, text)?;
+    Ok(steps)
+}
+
+#[test]
+fn refusals() -> Result<(), Fail> {
+    let malformed = match steps_of(b"SZ   1   1   1\nZ") {
+        Ok(steps) => code(0, steps as u128, 0, 0),
+        Err(refusal) => refusal.code(),
+    };
+    check_eq(malformed, code(18, 2, 2, 0))?;
+    let refused = match steps_of(b"SZ   1  17   1\n") {
+        Ok(steps) => code(0, steps as u128, 0, 0),
+        Err(refusal) => refusal.code(),
+    };
+    check_eq(refused, code(20, 1, 0, 1))
 }
