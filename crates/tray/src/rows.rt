@@ -38,7 +38,7 @@ pub(crate) fn item_at<T: Copy>(row: &[T], place: usize) -> Option<T>
 
 /// The place of the first element of a row that equals a value.
 pub(crate) fn first_equal<T: Equality>(row: &[T], x: &T) -> Option<usize>
-    ensures { Found equal x.now row.now result }
+    ensures { Found T.equal x.now row.now result }
 {
     for (i, y) in row.iter().enumerate() {
         if y.same(x) {

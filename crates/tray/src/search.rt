@@ -9,7 +9,7 @@ use super::{Equality, Tray};
 impl<'a, T: Equality> Tray<'a, T> {
     /// The place, counted from 1, of the first element that equals a value. Equal values are found at one place.
     pub fn find(&self, x: &T) -> Option<usize>
-        ensures { Found equal x.now (items self.now) result }
+        ensures { Found T.equal x.now (items self.now) result }
     {
         first_equal(self.as_slice(), x)
     }

@@ -14,7 +14,7 @@ returns-then-not-is-literal c =
 pub loop-z-preserved : goal.loop-z-preserved
 loop-z-preserved c =
     let f : SFits w32 (get_or c.args.clause.now c.loop-z.z-index (pos 0)) = search rules in
-    let s = literals-step c.args.clause.now c.loop-z.z-index true c.loop-z-test.true f c.if-not-is-literal.ensures in
+    let s = literals-step c.args.clause.now c.loop-z.z-index true c.loop-z-test.true f c.if-not-is_literal.ensures in
     sym s ∙ c.loop-z.invariant
 
 pub returns : goal.returns

@@ -11,4 +11,4 @@ write-number-requires c =
 
 pub returns : goal.returns
 unfolding field
-returns c = c.write-number.ensures ∙ ap (λ w. justified w (decimal c.args.n)) c.requires.0
+returns c = c.write_number.ensures ∙ ap (λ w. justified w (decimal c.args.n)) c.requires.0

@@ -16,12 +16,12 @@ returns c =
     let n = field width (pos c.args.count) in
     let lv : length v ≡ width = length-count c.args.largest c.requires.1.0 in
     let ln : length n ≡ width = length-count c.args.count c.requires.1.1 in
-    let e₁ : put_mid 0 5 b c.copy-from-slice.new.self ≡ paste b 0 w 5 = paste-part b b c.copy-from-slice.new.self [] w 0 5 refl refl (paste_none b 0 []) c.copy-from-slice.ensures.after in
-    let e₂ : put_mid 5 7 (put_mid 0 5 b c.copy-from-slice.new.self) c.write-count.new.column ≡ paste b 0 (w ++ v) 12 = paste-part b _ c.write-count.new.column w v 5 7 refl (sym lv) e₁ c.write-count.ensures in
+    let e₁ : put_mid 0 5 b c.copy_from_slice.new.self ≡ paste b 0 w 5 = paste-part b b c.copy_from_slice.new.self [] w 0 5 refl refl (paste_none b 0 []) c.copy_from_slice.ensures.after in
+    let e₂ : put_mid 5 7 (put_mid 0 5 b c.copy_from_slice.new.self) c.write_count.new.column ≡ paste b 0 (w ++ v) 12 = paste-part b _ c.write_count.new.column w v 5 7 refl (sym lv) e₁ c.write_count.ensures in
     let l₂ : 12 ≡ length (w ++ v) = omega (arith, lv) in
-    let e₃ : put_mid 12 7 (put_mid 5 7 (put_mid 0 5 b c.copy-from-slice.new.self) c.write-count.new.column) c.write-count-2.new.column ≡ paste b 0 ((w ++ v) ++ n) 19 = paste-part b _ c.write-count-2.new.column (w ++ v) n 12 7 l₂ (sym ln) e₂ c.write-count-2.ensures in
+    let e₃ : put_mid 12 7 (put_mid 5 7 (put_mid 0 5 b c.copy_from_slice.new.self) c.write_count.new.column) c.write_count-2.new.column ≡ paste b 0 ((w ++ v) ++ n) 19 = paste-part b _ c.write_count-2.new.column (w ++ v) n 12 7 l₂ (sym ln) e₂ c.write_count-2.ensures in
     let l₃ : 19 ≡ length ((w ++ v) ++ n) = omega (arith, length-append (w ++ v) n, ln) in
-    let k : 19 < length (put_mid 12 7 (put_mid 5 7 (put_mid 0 5 b c.copy-from-slice.new.self) c.write-count.new.column) c.write-count-2.new.column) = search rules in
+    let k : 19 < length (put_mid 12 7 (put_mid 5 7 (put_mid 0 5 b c.copy_from_slice.new.self) c.write_count.new.column) c.write_count-2.new.column) = search rules in
     paste-byte b _ ((w ++ v) ++ n) 19 10 l₃ k e₃
     ∙ paste-whole b (((w ++ v) ++ n) ++ 10 ∷ []) 20 (omega (arith, length_push ((w ++ v) ++ n) 10)) c.requires.0
     ∙ append_assoc (w ++ v) n (10 ∷ [])

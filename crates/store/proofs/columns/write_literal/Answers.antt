@@ -16,5 +16,5 @@ write-number-requires c =
 pub returns : goal.returns
 unfolding field
 returns c =
-    let e : spelled c.unsigned-abs.result (lt_z (to_z w32 (of_z w32 c.args.z)) (pos 0)) ≡ signed_decimal c.args.z = spelled-signed c.args.z _ _ (to_z-of_z w32 _ c.ranges.z) c.unsigned-abs.ensures.value in
-    c.write-number.ensures ∙ ap (justified (length c.args.column.now)) e ∙ ap (λ w. justified w (signed_decimal c.args.z)) c.requires.0
+    let e : spelled c.unsigned_abs.result (lt_z (to_z w32 (of_z w32 c.args.z)) (pos 0)) ≡ signed_decimal c.args.z = spelled-signed c.args.z _ _ (to_z-of_z w32 _ c.ranges.z) c.unsigned_abs.ensures.value in
+    c.write_number.ensures ∙ ap (justified (length c.args.column.now)) e ∙ ap (λ w. justified w (signed_decimal c.args.z)) c.requires.0

@@ -20,9 +20,9 @@ loop-k-init c =
 pub loop-k-preserved : goal.loop-k-preserved
 loop-k-preserved c =
     let b = c.loop-k.column in
-    let l : length (set b (c.loop-k.k - 1) c.column-byte.result) ≡ length b = length-set b (c.loop-k.k - 1) c.column-byte.result in (
+    let l : length (set b (c.loop-k.k - 1) c.column_byte.result) ≡ length b = length-set b (c.loop-k.k - 1) c.column_byte.result in (
       omega (arith, c.loop-k.invariant.0),
-      next-byte b c.loop-k.k c.loop-k.rest c.column-byte.result c.loop-k.minus c.loop-k-test.true (omega (arith, c.loop-k.invariant.0)) c.column-byte.ensures
+      next-byte b c.loop-k.k c.loop-k.rest c.column_byte.result c.loop-k.minus c.loop-k-test.true (omega (arith, c.loop-k.invariant.0)) c.column_byte.ensures
           ∙ c.loop-k.invariant.1
           ∙ ap (λ t. columns t c.args.n c.args.negative) (sym l),
     )

@@ -13,10 +13,10 @@ loop-z-preserved c =
     let cl = c.args.clause.now in
     let i = c.loop-z.z-index in
     let f : SFits w32 (get_or cl i (pos 0)) = search rules in
-    let n : c.unsigned-abs.result ≡ nat_abs (get_or cl i (pos 0)) = c.unsigned-abs.ensures.value ∙ ap nat_abs (to_z-of_z w32 _ f) in
-    let e : largest_of (drop i cl) ≡ max c.unsigned-abs.result (largest_of (drop (i + 1) cl)) = at_drop_more largest_of cl i (pos 0) c.loop-z-test.true ∙ ap (λ t. max t (largest_of (drop (i + 1) cl))) (sym n) in
-    let r : c.max-largest.result ≡ max c.loop-z.largest c.unsigned-abs.result = search rules in
-    sym (more _ c.loop-z.largest c.unsigned-abs.result (largest_of (drop (i + 1) cl)) c.max-largest.result e r) ∙ c.loop-z.invariant
+    let n : c.unsigned_abs.result ≡ nat_abs (get_or cl i (pos 0)) = c.unsigned_abs.ensures.value ∙ ap nat_abs (to_z-of_z w32 _ f) in
+    let e : largest_of (drop i cl) ≡ max c.unsigned_abs.result (largest_of (drop (i + 1) cl)) = at_drop_more largest_of cl i (pos 0) c.loop-z-test.true ∙ ap (λ t. max t (largest_of (drop (i + 1) cl))) (sym n) in
+    let r : c.max-largest.result ≡ max c.loop-z.largest c.unsigned_abs.result = search rules in
+    sym (more _ c.loop-z.largest c.unsigned_abs.result (largest_of (drop (i + 1) cl)) c.max-largest.result e r) ∙ c.loop-z.invariant
 
 pub returns : goal.returns
 returns c =

@@ -13,7 +13,7 @@ pub returns : goal.returns
 returns c =
     let xs = c.args.self.now.entries.now in
     let v = c.args.variable in
-    let i = c.in-ok-i.i in
-    let first = c.in-ok-i.ensures in
+    let i = c.in_ok-i.i in
+    let first = c.in_ok-i.ensures in
     let fit : SFits w32 (get_or xs i (pos 0)) = search rules in
     simp to_z-of_z (record { sign = sym (sign-some v xs i first); decided = λ e. decided-some v xs i e first })

@@ -28,13 +28,13 @@ returns c =
     let e = c.replace-numbers.ensures.value in
     let eu = ap (λ x. x.used) e in
     let el = ap (λ x. length x.numbers.now) e in
-    let p = clause-parts cl (sym c.if-not-is-clause.ensures) in
+    let p = clause-parts cl (sym c.if-not-is_clause.ensures) in
     let f : o.used + (length cl + 1) ≤ length o.numbers.now = omega (arith, o.within, c.free.ensures) in
-    let w = wrote o.numbers.now o.used o.count o.within o.laid o.counted cl c.write-clause.new.numbers p.2 f c.write-clause.ensures in
+    let w = wrote o.numbers.now o.used o.count o.within o.laid o.counted cl c.write_clause.new.numbers p.2 f c.write_clause.ensures in
     let k = cost-by (λ k. k + 1) (length cl) p.0 p.1 in
     record {
       puts = record {
-        lawful = sym c.if-not-is-clause.ensures;
+        lawful = sym c.if-not-is_clause.ensures;
         room = omega (arith, k, c.free.ensures);
         held = w.held ∙ ap (λ x. clauses_in (take x.used x.numbers.now) ++ cl ∷ []) e;
         units = omega (arith, k, w.same_length);

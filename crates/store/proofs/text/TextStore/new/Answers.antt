@@ -27,9 +27,9 @@ invariant-of-result-2 c =
 
 pub returns : goal.returns
 returns c =
-    let h = c.write-header.new.header in
+    let h = c.write_header.new.header in
     let d = c.args.bytes.now in
-    let e : h ≡ header_of width 0 0 = c.write-header.ensures in
+    let e : h ≡ header_of width 0 0 = c.write_header.ensures in
     let l : header_length ≤ length d = c.if-bytes-lt-HEADER.false in
     let t : ltb (length d) header_length ≡ false = grind (arith, nat_tests) in
     record {

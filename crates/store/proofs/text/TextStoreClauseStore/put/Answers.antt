@@ -38,10 +38,10 @@ returns c =
     let e = c.replace-bytes.ensures.value in
     let r = c.free.ensures ∙ sym (ap (λ x. room_in (length x.bytes.now) x.used) e) in
     let k : width * length c.args.clause.now + 3 ≤ c.free.result = omega (arith, c.if-free-price.false) in
-    let m : c.max-largest.result ≡ max o.largest c.largest-of.result = search rules in
-    let l = sym c.if-not-is-clause.ensures in
-    let w = put-wrote o cl c.free.result c.largest-of.result c.max-largest.result l r k c.largest-of.ensures m c.write-clause.new.bytes c.write-clause.ensures in
-    let u = put-units o cl c.free.result c.largest-of.result c.max-largest.result l r k c.largest-of.ensures m c.write-clause.new.bytes w.same_length in
+    let m : c.max-largest.result ≡ max o.largest c.largest_of.result = search rules in
+    let l = sym c.if-not-is_clause.ensures in
+    let w = put-wrote o cl c.free.result c.largest_of.result c.max-largest.result l r k c.largest_of.ensures m c.write_clause.new.bytes c.write_clause.ensures in
+    let u = put-units o cl c.free.result c.largest_of.result c.max-largest.result l r k c.largest_of.ensures m c.write_clause.new.bytes w.same_length in
     let p = clause-parts cl l in
     record {
       puts = record {
