@@ -4,8 +4,8 @@ use Rattle.answer.specs.Missing.{LowestMissing}
 use Rattle.answer.proofs.Lowest.{lowest-from}
 use Rattle.answer.proofs.missing.lowest_missing.Goals as goal
 
-pub returns-in-default : goal.returns-in-default
-returns-in-default g c =
+pub returns-in_default : goal.returns-in_default
+returns-in_default g c =
     let told = g.S.AnswerSource.tells c.args.source.now in
     let here : LowestMissing told c.args.variables (Some c.loop-variable.variable) = search rules in
     lowest-from told c.args.variables (Some c.loop-variable.variable) here

@@ -13,19 +13,19 @@ use Rattle.encode.specs.Printed.{Prints, store_size}
 use Rattle.encode.proofs.Printing.{prints-refusal, prints-text, shown-whole}
 use Rattle.encode.proofs.output.encode.Goals as goal
 
-pub returns-in-ok-text : goal.returns-in-ok-text
-returns-in-ok-text c =
+pub returns-in_ok-text : goal.returns-in_ok-text
+returns-in_ok-text c =
     let free = c.new-store.ensures.free ∙ ap (λ (n : ℕ). min n longest_text - header_length) (length-replicate {A = ℕ} store_size 32) in
-    let t = c.write-table.new.store in
+    let t = c.write_table.new.store in
     let n = c.new-store.ensures in
     let w = c.in-Ok.ensures in
     let left = text-left c.new-store.result t (replicate {A = ℕ} store_size 32) (clauses_of (take t.used t.bytes.now)) n.memory n.empty w.grows refl in
-    prints-text _ _ c.new-store.result t c.args.input.now free (Ok c.in-Ok.field-0) c.in-Ok.field-0 (Granted c.in-ok-text.text) refl n.empty w.written
-    (record { granted = refl; text-is = c.in-ok-text.ensures.items ∙ c.text.ensures ∙ sym t.shown ∙ left.0 ∙ shown-whole _ _ (length-replicate {A = ℕ} store_size 32) })
+    prints-text _ _ c.new-store.result t c.args.input.now free (Ok c.in-Ok.field-0) c.in-Ok.field-0 (Granted c.in_ok-text.text) refl n.empty w.written
+    (record { granted = refl; text-is = c.in_ok-text.ensures.items ∙ c.text.ensures ∙ sym t.shown ∙ left.0 ∙ shown-whole _ _ (length-replicate {A = ℕ} store_size 32) })
 
 pub returns-in-Err : goal.returns-in-Err
 returns-in-Err c =
     let free = c.new-store.ensures.free ∙ ap (λ (n : ℕ). min n longest_text - header_length) (length-replicate {A = ℕ} store_size 32) in
     IfOk-weaker c.refusal.result (λ output. Refuses output c.code.result) (λ output. Prints c.args.input.now output)
-    (λ output p. prints-refusal _ _ c.new-store.result c.write-table.new.store c.args.input.now free (Err c.in-Err.refusal) c.in-Err.refusal output refl c.in-Err.ensures.written (subst (Refuses output) c.code.ensures p))
+    (λ output p. prints-refusal _ _ c.new-store.result c.write_table.new.store c.args.input.now free (Err c.in-Err.refusal) c.in-Err.refusal output refl c.in-Err.ensures.written (subst (Refuses output) c.code.ensures p))
     c.refusal.ensures

@@ -25,8 +25,8 @@ returns-then-free-price g c =
       grows = S.growth.none c.args.store.now;
     }
 
-pub put-list-requires : goal.put-list-requires
-put-list-requires g c =
+pub put_list-requires : goal.put_list-requires
+put_list-requires g c =
     let T = meant c.args.table.now in
     let s : Small T = (c.args.table.now.sizes.1, c.args.table.now.sizes.3) in
     record { limits = limits T _ c.of-template.ensures.families c.args.n s c.requires.1; size = size_small T _ c.of-template.ensures.families s; steps = c.requires.1 }
@@ -43,6 +43,6 @@ returns g c =
     let room : price_of S.prices (signed_formula T c.args.n) ≤ S.units c.args.store.now = omega (arith, c.if-free-price.false, c.free.ensures) in
     record {
       answer = answer-count T c.args.n S.prices (S.units c.args.store.now) _ c.requires.0 c.requires.1 room (length-is T c.args.n _ _ _ _ a b d c.clauses.ensures);
-      after = subst (Adds S.held S.units S.prices c.args.store.now c.put-list.new.store) (list-is T _ h c.args.n) c.put-list.ensures.puts room;
-      grows = c.put-list.ensures.grows;
+      after = subst (Adds S.held S.units S.prices c.args.store.now c.put_list.new.store) (list-is T _ h c.args.n) c.put_list.ensures.puts room;
+      grows = c.put_list.ensures.grows;
     }

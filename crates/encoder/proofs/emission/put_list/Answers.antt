@@ -10,18 +10,18 @@ use Rattle.encoder.proofs.Adding.{adds-more, adds_none, adds-two}
 use Rattle.encoder.proofs.Steps.{alone-more, alone-none, family-is, signs-whole, start_is, start-limits, step-limits, steps_alone}
 use Rattle.encoder.proofs.emission.put_list.Goals as goal
 
-pub put-all-requires : goal.put-all-requires
-put-all-requires g c = subst (All (All InLimits)) (sym (start_is c.args.template.now _ c.family.ensures))
+pub put_all-requires : goal.put_all-requires
+put_all-requires g c = subst (All (All InLimits)) (sym (start_is c.args.template.now _ c.family.ensures))
     (start-limits c.args.template.now c.args.n (all_left (All InLimits) (unrolled_steps c.args.template.now c.args.n) _ c.requires.limits))
 
 pub loop-step-init : goal.loop-step-init
 loop-step-init g c = (
-  subst (Adds g.S.ClauseStore.held g.S.ClauseStore.units g.S.ClauseStore.prices c.put-all.new.store c.put-all.new.store) (sym (alone-none c.args.template.now)) (adds_none _ _ _ c.put-all.new.store),
-  g.S.ClauseStore.growth.none c.put-all.new.store,
+  subst (Adds g.S.ClauseStore.held g.S.ClauseStore.units g.S.ClauseStore.prices c.put_all.new.store c.put_all.new.store) (sym (alone-none c.args.template.now)) (adds_none _ _ _ c.put_all.new.store),
+  g.S.ClauseStore.growth.none c.put_all.new.store,
 )
 
-pub put-step-requires : goal.put-step-requires
-put-step-requires g c = record {
+pub put_step-requires : goal.put_step-requires
+put_step-requires g c = record {
   limits = step-limits c.args.template.now c.args.n c.loop-step.step c.loop-step-test.true (all_left (All InLimits) (unrolled_steps c.args.template.now c.args.n) _ c.requires.limits);
   size = c.requires.size;
   steps = omega (arith, c.requires.steps);
@@ -29,12 +29,12 @@ put-step-requires g c = record {
 
 pub loop-step-preserved : goal.loop-step-preserved
 loop-step-preserved g c = (
-  adds-two g.S.ClauseStore.held g.S.ClauseStore.units g.S.ClauseStore.prices c.put-all.new.store c.loop-step.store c.put-step.new.store _ _ _ c.loop-step.invariant.0 c.put-step.ensures.puts (alone-more c.args.template.now c.loop-step.step),
-  g.S.ClauseStore.growth.more c.put-all.new.store c.loop-step.store c.put-step.new.store c.loop-step.invariant.1 c.put-step.ensures.grows,
+  adds-two g.S.ClauseStore.held g.S.ClauseStore.units g.S.ClauseStore.prices c.put_all.new.store c.loop-step.store c.put_step.new.store _ _ _ c.loop-step.invariant.0 c.put_step.ensures.puts (alone-more c.args.template.now c.loop-step.step),
+  g.S.ClauseStore.growth.more c.put_all.new.store c.loop-step.store c.put_step.new.store c.loop-step.invariant.1 c.put_step.ensures.grows,
 )
 
-pub put-all-requires-2 : goal.put-all-requires-2
-put-all-requires-2 g c = subst (All (All InLimits)) (sym (family-is c.args.template.now Goal _ _ _ (ap (λ k. c.args.n * k) c.step-size.ensures) c.family-2.ensures))
+pub put_all-requires-2 : goal.put_all-requires-2
+put_all-requires-2 g c = subst (All (All InLimits)) (sym (family-is c.args.template.now Goal _ _ _ (ap (λ k. c.args.n * k) c.step_size.ensures) c.family-2.ensures))
     (all_right (All InLimits) (unrolled_steps c.args.template.now c.args.n) _ c.requires.limits)
 
 pub returns : goal.returns
@@ -42,9 +42,9 @@ returns g c =
     let S = g.S.ClauseStore in
     let e : c.loop-step.step ≡ c.args.n = omega arith in
     record {
-      puts = adds-two S.held S.units S.prices c.args.store.now c.loop-step.store c.put-all-2.new.store _ _ _
-          (adds-more S.held S.units S.prices c.args.store.now c.put-all.new.store c.loop-step.store _ _ c.put-all.ensures.puts (subst (λ s. Adds S.held S.units S.prices c.put-all.new.store c.loop-step.store (signs (steps_alone c.args.template.now s))) e c.loop-step.invariant.0))
-          c.put-all-2.ensures.puts
-          (signs-whole c.args.template.now c.args.n _ _ (ap signs (start_is c.args.template.now _ c.family.ensures)) (ap signs (family-is c.args.template.now Goal _ _ _ (ap (λ k. c.args.n * k) c.step-size.ensures) c.family-2.ensures)));
-      grows = S.growth.more c.args.store.now c.loop-step.store c.put-all-2.new.store (S.growth.more c.args.store.now c.put-all.new.store c.loop-step.store c.put-all.ensures.grows c.loop-step.invariant.1) c.put-all-2.ensures.grows;
+      puts = adds-two S.held S.units S.prices c.args.store.now c.loop-step.store c.put_all-2.new.store _ _ _
+          (adds-more S.held S.units S.prices c.args.store.now c.put_all.new.store c.loop-step.store _ _ c.put_all.ensures.puts (subst (λ s. Adds S.held S.units S.prices c.put_all.new.store c.loop-step.store (signs (steps_alone c.args.template.now s))) e c.loop-step.invariant.0))
+          c.put_all-2.ensures.puts
+          (signs-whole c.args.template.now c.args.n _ _ (ap signs (start_is c.args.template.now _ c.family.ensures)) (ap signs (family-is c.args.template.now Goal _ _ _ (ap (λ k. c.args.n * k) c.step_size.ensures) c.family-2.ensures)));
+      grows = S.growth.more c.args.store.now c.loop-step.store c.put_all-2.new.store (S.growth.more c.args.store.now c.put_all.new.store c.loop-step.store c.put_all.ensures.grows c.loop-step.invariant.1) c.put_all-2.ensures.grows;
     }

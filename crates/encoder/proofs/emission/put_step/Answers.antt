@@ -11,19 +11,19 @@ use Rattle.encoder.proofs.Moved.{signs-append}
 use Rattle.encoder.proofs.Steps.{agenda-limits, family-is, kept-limits, truth-limits}
 use Rattle.encoder.proofs.emission.put_step.Goals as goal
 
-pub put-all-requires : goal.put-all-requires
-put-all-requires g c = subst (All (All InLimits)) (sym (family-is c.args.template.now Agenda _ _ _ (ap (λ k. c.args.step * k) c.step-size.ensures) c.family.ensures)) (agenda-limits c.args.template.now c.args.step c.requires.limits)
+pub put_all-requires : goal.put_all-requires
+put_all-requires g c = subst (All (All InLimits)) (sym (family-is c.args.template.now Agenda _ _ _ (ap (λ k. c.args.step * k) c.step_size.ensures) c.family.ensures)) (agenda-limits c.args.template.now c.args.step c.requires.limits)
 
-pub put-all-requires-2 : goal.put-all-requires-2
-put-all-requires-2 g c = subst (All (All InLimits)) (sym (family-is c.args.template.now Kept _ _ _ (ap (λ k. c.args.step * k) c.step-size.ensures) c.family-2.ensures)) (kept-limits c.args.template.now c.args.step c.requires.limits)
+pub put_all-requires-2 : goal.put_all-requires-2
+put_all-requires-2 g c = subst (All (All InLimits)) (sym (family-is c.args.template.now Kept _ _ _ (ap (λ k. c.args.step * k) c.step_size.ensures) c.family-2.ensures)) (kept-limits c.args.template.now c.args.step c.requires.limits)
 
-pub put-all-requires-3 : goal.put-all-requires-3
-put-all-requires-3 g c = subst (All (All InLimits)) (sym (family-is c.args.template.now Truth _ _ _ (ap (λ k. c.args.step * k) c.step-size.ensures) c.family-3.ensures)) (truth-limits c.args.template.now c.args.step c.requires.limits)
+pub put_all-requires-3 : goal.put_all-requires-3
+put_all-requires-3 g c = subst (All (All InLimits)) (sym (family-is c.args.template.now Truth _ _ _ (ap (λ k. c.args.step * k) c.step_size.ensures) c.family-3.ensures)) (truth-limits c.args.template.now c.args.step c.requires.limits)
 
 pub returns : goal.returns
 returns g c =
     let S = g.S.ClauseStore in
-    let k = ap (λ k. c.args.step * k) c.step-size.ensures in
+    let k = ap (λ k. c.args.step * k) c.step_size.ensures in
     let a = ap signs (family-is c.args.template.now Agenda _ _ _ k c.family.ensures) in
     let b = ap signs (family-is c.args.template.now Kept _ _ _ k c.family-2.ensures) in
     let d = ap signs (family-is c.args.template.now Truth _ _ _ k c.family-3.ensures) in
@@ -31,8 +31,8 @@ returns g c =
     let K = shifted (c.args.step * c.args.template.now.step_size) (said c.args.template.now Kept) in
     let V = shifted (c.args.step * c.args.template.now.step_size) (said c.args.template.now Truth) in
     record {
-      puts = adds-two S.held S.units S.prices c.args.store.now c.put-all-2.new.store c.put-all-3.new.store _ _ _
-          (adds-more S.held S.units S.prices c.args.store.now c.put-all.new.store c.put-all-2.new.store _ _ c.put-all.ensures.puts c.put-all-2.ensures.puts) c.put-all-3.ensures.puts
+      puts = adds-two S.held S.units S.prices c.args.store.now c.put_all-2.new.store c.put_all-3.new.store _ _ _
+          (adds-more S.held S.units S.prices c.args.store.now c.put_all.new.store c.put_all-2.new.store _ _ c.put_all.ensures.puts c.put_all-2.ensures.puts) c.put_all-3.ensures.puts
           (ap₂ ◌++◌ (ap₂ ◌++◌ a b) d ∙ ap (λ xs. xs ++ signs V) (sym (signs-append A K)) ∙ sym (signs-append (A ++ K) V));
-      grows = S.growth.more c.args.store.now c.put-all-2.new.store c.put-all-3.new.store (S.growth.more c.args.store.now c.put-all.new.store c.put-all-2.new.store c.put-all.ensures.grows c.put-all-2.ensures.grows) c.put-all-3.ensures.grows;
+      grows = S.growth.more c.args.store.now c.put_all-2.new.store c.put_all-3.new.store (S.growth.more c.args.store.now c.put_all.new.store c.put_all-2.new.store c.put_all.ensures.grows c.put_all-2.ensures.grows) c.put_all-3.ensures.grows;
     }

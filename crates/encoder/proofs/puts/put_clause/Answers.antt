@@ -9,8 +9,8 @@ use Rattle.store.proofs.Meaning.{clause-3}
 use Rattle.encoder.proofs.Moved.{literal-lawful, three-limits}
 use Rattle.encoder.proofs.puts.put_clause.Goals as goal
 
-pub put-signed-requires-in-Three : goal.put-signed-requires-in-Three
-put-signed-requires-in-Three g c =
+pub put_signed-requires-in-Three : goal.put_signed-requires-in-Three
+put_signed-requires-in-Three g c =
     let p = three-limits c.args.shift c.args.clause c.in-Three.a c.in-Three.b c.in-Three.c c.in-Three.is c.requires in
     let f : SFits w32 c.signed-in-Three.result = search rules in
     let h : SFits w32 c.signed-in-Three-2.result = search rules in

@@ -13,8 +13,8 @@ pub loop-i-init : goal.loop-i-init
 unfolding total
 loop-i-init c = (refl, omega arith)
 
-pub overflow-add-sum : goal.overflow-add-sum
-overflow-add-sum c = let w = width-le (meant c.args.table.now) (c.loop-i.i + 1) in omega (arith, c.args.table.now.sizes)
+pub overflow_add-sum : goal.overflow_add-sum
+overflow_add-sum c = let w = width-le (meant c.args.table.now) (c.loop-i.i + 1) in omega (arith, c.args.table.now.sizes)
 
 pub loop-i-preserved : goal.loop-i-preserved
 loop-i-preserved c =

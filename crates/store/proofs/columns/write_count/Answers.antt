@@ -4,8 +4,8 @@ use Rattle.std.proofs.lemmas.Fmt.{length-decimal-le}
 use Rattle.store.specs.Rendering.{justified, field, width}
 use Rattle.store.proofs.columns.write_count.Goals as goal
 
-pub write-number-requires : goal.write-number-requires
-write-number-requires c =
+pub write_number-requires : goal.write_number-requires
+write_number-requires c =
     let l : length (decimal c.args.n) ≤ width = length-decimal-le width c.args.n (omega arith) (omega arith) c.ranges.n.fits in
     omega (arith, c.requires.0)
 

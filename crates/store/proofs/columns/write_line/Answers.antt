@@ -7,8 +7,8 @@ use Rattle.store.specs.Rendering.{width}
 use Rattle.store.proofs.Lines.{literal-at, fields-more, line-ends}
 use Rattle.store.proofs.columns.write_line.Goals as goal
 
-pub write-literal-requires : goal.write-literal-requires
-write-literal-requires c =
+pub write_literal-requires : goal.write_literal-requires
+write_literal-requires c =
     let cl = c.args.clause.now in
     let i = c.loop-i.i in
     let b = c.loop-i.line in

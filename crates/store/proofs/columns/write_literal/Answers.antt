@@ -8,9 +8,9 @@ use Rattle.store.specs.Spelling.{spelled}
 use Rattle.store.proofs.Lines.{spelled-signed, length-literal}
 use Rattle.store.proofs.columns.write_literal.Goals as goal
 
-pub write-number-requires : goal.write-number-requires
-write-number-requires c =
-    let e : spelled c.unsigned-abs.result (lt_z (to_z w32 (of_z w32 c.args.z)) (pos 0)) ≡ signed_decimal c.args.z = spelled-signed c.args.z _ _ (to_z-of_z w32 _ c.ranges.z) c.unsigned-abs.ensures.value in
+pub write_number-requires : goal.write_number-requires
+write_number-requires c =
+    let e : spelled c.unsigned_abs.result (lt_z (to_z w32 (of_z w32 c.args.z)) (pos 0)) ≡ signed_decimal c.args.z = spelled-signed c.args.z _ _ (to_z-of_z w32 _ c.ranges.z) c.unsigned_abs.ensures.value in
     omega (arith, ap length e, length-literal c.args.z c.requires.1, c.requires.0)
 
 pub returns : goal.returns

@@ -4,8 +4,8 @@ use Rattle.std.proofs.lemmas.List.{length-set}
 use Rattle.store.proofs.Justify.{fill, columns, spelled-length, columns-justified, first_byte, next-byte}
 use Rattle.store.proofs.columns.write_number.Goals as goal
 
-pub overflow-sub-k : goal.overflow-sub-k
-overflow-sub-k c = spelled-length c.args.n c.args.negative (length c.args.column.now) c.ranges.n.fits c.requires
+pub overflow_sub-k : goal.overflow_sub-k
+overflow_sub-k c = spelled-length c.args.n c.args.negative (length c.args.column.now) c.ranges.n.fits c.requires
 
 pub bounds-column-k : goal.bounds-column-k
 bounds-column-k c = omega (arith, spelled-length c.args.n c.args.negative (length c.args.column.now) c.ranges.n.fits c.requires)

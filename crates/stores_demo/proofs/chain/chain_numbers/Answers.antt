@@ -8,7 +8,7 @@ use Rattle.stores_demo.proofs.chain.chain_numbers.Goals as goal
 
 pub returns-in-Ok : goal.returns-in-Ok
 returns-in-Ok c =
-    let t = c.put-chain.new.store in
+    let t = c.put_chain.new.store in
     let p = c.in-Ok.ensures in
     let n = c.new-store.ensures in
     let left = numbers-left c.new-store.result t c.args.numbers.now (chain c.args.n) n.memory p.grows (p.puts.added.joined ∙ ap (λ cs. cs ++ chain c.args.n) n.empty) in

@@ -9,7 +9,7 @@ use Rattle.stores_demo.proofs.chain.chain_text.Goals as goal
 pub returns-in-Ok : goal.returns-in-Ok
 returns-in-Ok c =
     let d = c.args.bytes.now in
-    let t = c.put-chain.new.store in
+    let t = c.put_chain.new.store in
     let p = c.in-Ok.ensures in
     let n = c.new-store.ensures in
     let left = text-left c.new-store.result t d (chain c.args.n) n.memory n.empty p.grows (p.puts.added.joined ∙ ap (λ cs. cs ++ chain c.args.n) n.empty) in

@@ -16,21 +16,21 @@ returns-then-free-price g c =
       grows = S.growth.none c.args.store.now;
     }
 
-pub returns-in-err-put-2 : goal.returns-in-err-put-2
+pub returns-in_err-put-2 : goal.returns-in_err-put-2
 unfolding written
-returns-in-err-put-2 g c =
+returns-in_err-put-2 g c =
     let S = g.S.ClauseStore in
-    let j = c.in-ok-put.ensures.puts in
+    let j = c.in_ok-put.ensures.puts in
     let a : S.prices.one + c.args.n * S.prices.two ≤ S.units c.args.store.now = omega (arith, c.free.ensures, c.price.ensures, ap (λ t. c.args.n * t) c.price-2.ensures) in
     let p : S.units c.loop-k.store + (S.prices.one + c.loop-k.k * S.prices.two) ≡ S.units c.args.store.now = omega (arith, c.loop-k.invariant.0.paid, implications-price S.prices c.loop-k.k, j.units, j.room) in
     let r : S.prices.two ≤ S.units c.loop-k.store = covered c.loop-k.k c.args.n S.prices.two S.prices.one (S.units c.args.store.now) (S.units c.loop-k.store) c.loop-k-test.true a p in
-    absurd (no-refusal (Unit {0}) S.held S.units S.prices c.loop-k.store c.put-in-loop-k.new.self (written c.loop-k.k) c.in-err-put-2.field-0.0 (written-lawful c.loop-k.k (omega arith)) r c.in-err-put-2.ensures.puts)
+    absurd (no-refusal (Unit {0}) S.held S.units S.prices c.loop-k.store c.put-in-loop-k.new.self (written c.loop-k.k) c.in_err-put-2.field-0.0 (written-lawful c.loop-k.k (omega arith)) r c.in_err-put-2.ensures.puts)
 
 pub loop-k-preserved : goal.loop-k-preserved
 unfolding written
 loop-k-preserved g c =
     let S = g.S.ClauseStore in
-    let h = c.in-ok-put-2.ensures in
+    let h = c.in_ok-put-2.ensures in
     let a = added-put S.held S.units S.prices c.put.new.self c.loop-k.store c.put-in-loop-k.new.self (implications c.loop-k.k) (written c.loop-k.k) c.loop-k.invariant.0 h.puts in (
       subst (Added S.held S.units S.prices c.put.new.self c.put-in-loop-k.new.self) (implications-more c.loop-k.k (omega arith)) a,
       S.growth.more c.put.new.self c.loop-k.store c.put-in-loop-k.new.self c.loop-k.invariant.1 h.grows,
@@ -39,7 +39,7 @@ loop-k-preserved g c =
 pub returns : goal.returns
 returns g c =
     let S = g.S.ClauseStore in
-    let h = c.in-ok-put.ensures in
+    let h = c.in_ok-put.ensures in
     let k : c.loop-k.k ≡ c.args.n = omega arith in
     let q : c.args.n * c.price-2.result ≡ c.args.n * S.prices.two = ap (λ t. c.args.n * t) c.price-2.ensures in
     let one = added-one S.held S.units S.prices c.args.store.now c.put.new.self (pos 1 ∷ []) h.puts in

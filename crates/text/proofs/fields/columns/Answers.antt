@@ -10,9 +10,9 @@ returns-then-i-s c = search (rules, read-end)
 pub loop-i-preserved : goal.loop-i-preserved
 loop-i-preserved c = search (rules, read_some, within_more)
 
-pub returns-in-err-at : goal.returns-in-err-at
-returns-in-err-at c =
-    let p = err_from_is_err_and c.from-residual.result c.from-residual.ensures.1 in
+pub returns-in_err-at : goal.returns-in_err-at
+returns-in_err-at c =
+    let p = err_from_is_err_and c.from_residual.result c.from_residual.ensures.1 in
     let l = c.loop-i in
-    let e = read_none l.i c.in-err-at.field-0.0 l.at c.args.s.now c.loop-i-test.true (search rules) (sym c.in-err-at.ensures) in
+    let e = read_none l.i c.in_err-at.field-0.0 l.at c.args.s.now c.loop-i-test.true (search rules) (sym c.in_err-at.ensures) in
     p.1 ∙ ap Err p.2 ∙ sym e ∙ l.invariant.0

@@ -4,10 +4,10 @@ use Rattle.std.proofs.lemmas.Int.{to_z-of_z}
 use Rattle.answer.proofs.Signs.{sign-none, sign-some, decided-some}
 use Rattle.answer.proofs.list.ListSource.first_sign.Goals as goal
 
-pub returns-in-err-i : goal.returns-in-err-i
-returns-in-err-i c =
-    let none = c.in-err-i.ensures in
-    rw c.from-residual.ensures (record { sign = sym (sign-none c.args.variable c.args.self.now.entries.now none); decided = λ _. none })
+pub returns-in_err-i : goal.returns-in_err-i
+returns-in_err-i c =
+    let none = c.in_err-i.ensures in
+    rw c.from_residual.ensures (record { sign = sym (sign-none c.args.variable c.args.self.now.entries.now none); decided = λ _. none })
 
 pub returns : goal.returns
 returns c =

@@ -3,8 +3,8 @@
 use Rattle.std.proofs.Common.{◌≡◌, sym, ◌∙◌, arith}
 use Rattle.formula.proofs.layout.Layout.before_pairs.Goals as goal
 
-pub overflow-add-result : goal.overflow-add-result
-overflow-add-result c = omega (arith, c.before-steps.ensures.few, c.args.self.now.table.now.sizes, c.actions.ensures)
+pub overflow_add-result : goal.overflow_add-result
+overflow_add-result c = omega (arith, c.before_steps.ensures.few, c.args.self.now.table.now.sizes, c.actions.ensures)
 
 pub returns : goal.returns
-returns c = record { count = omega (arith, c.before-steps.ensures.count, c.actions.ensures); few = omega (arith, c.before-steps.ensures.few, c.args.self.now.table.now.sizes, c.actions.ensures) }
+returns c = record { count = omega (arith, c.before_steps.ensures.count, c.actions.ensures); few = omega (arith, c.before_steps.ensures.few, c.args.self.now.table.now.sizes, c.actions.ensures) }

@@ -4,9 +4,9 @@ use Rattle.std.proofs.Common.{◌≡◌, sym, ◌∙◌, arith}
 use Rattle.encoding.specs.Variables.{number}
 use Rattle.formula.proofs.layout.Layout.event.Goals as goal
 
-pub overflow-add-result : goal.overflow-add-result
-overflow-add-result c = omega (arith, c.before-steps.ensures.few, c.requires)
+pub overflow_add-result : goal.overflow_add-result
+overflow_add-result c = omega (arith, c.before_steps.ensures.few, c.requires)
 
 pub returns : goal.returns
 unfolding number
-returns c = omega (arith, c.before-steps.ensures.count)
+returns c = omega (arith, c.before_steps.ensures.count)

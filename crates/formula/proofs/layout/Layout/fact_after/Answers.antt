@@ -4,12 +4,12 @@ use Rattle.std.proofs.Common.{◌≡◌, sym, ◌∙◌, arith}
 use Rattle.encoding.specs.Variables.{number}
 use Rattle.formula.proofs.layout.Layout.fact_after.Goals as goal
 
-pub overflow-add-result : goal.overflow-add-result
-overflow-add-result c = omega (arith, c.before-pairs.ensures.few, c.args.self.now.few)
+pub overflow_add-result : goal.overflow_add-result
+overflow_add-result c = omega (arith, c.before_pairs.ensures.few, c.args.self.now.few)
 
-pub overflow-add-result-2 : goal.overflow-add-result-2
-overflow-add-result-2 c = omega (arith, c.before-pairs.ensures.few, c.args.self.now.few, c.requires)
+pub overflow_add-result-2 : goal.overflow_add-result-2
+overflow_add-result-2 c = omega (arith, c.before_pairs.ensures.few, c.args.self.now.few, c.requires)
 
 pub returns : goal.returns
 unfolding number
-returns c = omega (arith, c.before-pairs.ensures.count, c.args.self.now.counted)
+returns c = omega (arith, c.before_pairs.ensures.count, c.args.self.now.counted)

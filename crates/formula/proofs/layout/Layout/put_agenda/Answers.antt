@@ -17,7 +17,7 @@ pub loop-i-preserved : goal.loop-i-preserved
 loop-i-preserved g c =
     let T = table_in c.args.self.now in
     joined-next c.args.out.now c.loop-i.out c.extend.new.self c.loop-i.i (agenda_at T) _ c.loop-i.invariant c.extend.ensures
-    (c.agenda-of.ensures ∙ agenda-equal _ _ _ _ _ _ _ _ c.event.ensures c.event-in-loop-i.ensures c.open-before.ensures c.open-after.ensures)
+    (c.agenda_of.ensures ∙ agenda-equal _ _ _ _ _ _ _ _ c.event.ensures c.event-in-loop-i.ensures c.open_before.ensures c.open_after.ensures)
 
 pub returns : goal.returns
 returns g c =

@@ -12,8 +12,8 @@ use Rattle.formula.proofs.Joining.{joined-none, joined-next, joined-two}
 use Rattle.formula.proofs.Ranges.{turn_from}
 use Rattle.formula.proofs.layout.Layout.put_chain.Goals as goal
 
-pub put-turn-count-requires : goal.put-turn-count-requires
-put-turn-count-requires g c = (
+pub put_turn-count-requires : goal.put_turn-count-requires
+put_turn-count-requires g c = (
   search rules,
   (
     c.requires.fact,
@@ -36,9 +36,9 @@ loop-i-init g c = (refl, joined-none c.extend.new.self)
 
 pub loop-i-preserved : goal.loop-i-preserved
 loop-i-preserved g c =
-    let n = c.put-turn-count.ensures.count ∙ ap (λ (x : ℕ). x + cond (relevant (table_in c.args.self.now) (c.loop-i.i + 1) c.args.chain.fact) 1 0) c.loop-i.invariant.0 ∙ sym (count-more c.loop-i.i (λ e. relevant (table_in c.args.self.now) e c.args.chain.fact)) in (
+    let n = c.put_turn-count.ensures.count ∙ ap (λ (x : ℕ). x + cond (relevant (table_in c.args.self.now) (c.loop-i.i + 1) c.args.chain.fact) 1 0) c.loop-i.invariant.0 ∙ sym (count-more c.loop-i.i (λ e. relevant (table_in c.args.self.now) e c.args.chain.fact)) in (
       n,
-      joined-next c.extend.new.self c.loop-i.out c.put-turn-count.new.out c.loop-i.i (turn_from (table_in c.args.self.now) c.args.chain.fact c.args.chain.before) _ c.loop-i.invariant.1 c.put-turn-count.ensures.puts
+      joined-next c.extend.new.self c.loop-i.out c.put_turn-count.new.out c.loop-i.i (turn_from (table_in c.args.self.now) c.args.chain.fact c.args.chain.before) _ c.loop-i.invariant.1 c.put_turn-count.ensures.puts
           (ap (turn_at (table_in c.args.self.now) c.args.chain.fact (variables (table_in c.args.self.now) 0) c.args.chain.before (c.loop-i.i + 1)) n),
     )
 

@@ -12,5 +12,5 @@ pub returns : goal.returns
 unfolding goal'
 returns g c =
     let T = table_in c.args.self.now in
-    subst (Joined c.args.out.now c.put-none-open.new.out) (sym (numbered-append T (goal_facts T 0) (none_open T 0)))
-    (joined-more c.args.out.now c.put-goal-facts.new.out c.put-none-open.new.out (numbered T (goal_facts T 0)) (numbered T (none_open T 0)) c.put-goal-facts.ensures c.put-none-open.ensures)
+    subst (Joined c.args.out.now c.put_none_open.new.out) (sym (numbered-append T (goal_facts T 0) (none_open T 0)))
+    (joined-more c.args.out.now c.put_goal_facts.new.out c.put_none_open.new.out (numbered T (goal_facts T 0)) (numbered T (none_open T 0)) c.put_goal_facts.ensures c.put_none_open.ensures)

@@ -18,7 +18,7 @@ pub loop-i-preserved : goal.loop-i-preserved
 unfolding number
 loop-i-preserved g c =
     let T = table_in c.args.self.now in
-    joined-next c.args.out.now c.loop-i.out c.put-if.new.out c.loop-i.i (goal_at T) _ c.loop-i.invariant c.put-if.ensures
+    joined-next c.args.out.now c.loop-i.out c.put_if.new.out c.loop-i.i (goal_at T) _ c.loop-i.invariant c.put_if.ensures
     (ap (λ b. only b ((is (c.loop-i.i + 1) ∷ []) ∷ [])) c.goal.ensures)
 
 pub returns : goal.returns

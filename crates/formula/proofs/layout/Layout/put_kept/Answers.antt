@@ -15,7 +15,7 @@ loop-i-init g c = joined-none c.args.out.now
 pub loop-i-preserved : goal.loop-i-preserved
 loop-i-preserved g c =
     let T = table_in c.args.self.now in
-    joined-next c.args.out.now c.loop-i.out c.put-kept-from.new.out c.loop-i.i (kept_from T) _ c.loop-i.invariant c.put-kept-from.ensures
+    joined-next c.args.out.now c.loop-i.out c.put_kept_from.new.out c.loop-i.i (kept_from T) _ c.loop-i.invariant c.put_kept_from.ensures
     (refl)
 
 pub returns : goal.returns

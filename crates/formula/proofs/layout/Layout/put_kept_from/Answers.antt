@@ -15,8 +15,8 @@ loop-i-init g c = joined-none c.args.out.now
 pub loop-i-preserved : goal.loop-i-preserved
 loop-i-preserved g c =
     let T = table_in c.args.self.now in
-    joined-next c.args.out.now c.loop-i.out c.put-if.new.out c.loop-i.i (kept_at T c.args.event) _ c.loop-i.invariant c.put-if.ensures
-    (kept-equal _ _ _ _ _ _ c.excludes.ensures c.event.ensures c.open-at-turn-open.ensures)
+    joined-next c.args.out.now c.loop-i.out c.put_if.new.out c.loop-i.i (kept_at T c.args.event) _ c.loop-i.invariant c.put_if.ensures
+    (kept-equal _ _ _ _ _ _ c.excludes.ensures c.event.ensures c.open_at_turn-open.ensures)
 
 pub returns : goal.returns
 returns g c =

@@ -17,7 +17,7 @@ pub loop-i-preserved : goal.loop-i-preserved
 loop-i-preserved g c =
     let T = table_in c.args.self.now in
     joined-next c.args.out.now c.loop-i.out c.push.new.self c.loop-i.i (open_at T) _ c.loop-i.invariant c.push.ensures
-    (ap (λ v. (isnt v ∷ []) ∷ []) c.open-before.ensures)
+    (ap (λ v. (isnt v ∷ []) ∷ []) c.open_before.ensures)
 
 pub returns : goal.returns
 returns g c =

@@ -12,5 +12,5 @@ pub returns : goal.returns
 unfolding start
 returns g c =
     let T = table_in c.args.self.now in
-    subst (Joined c.args.out.now c.put-none-open.new.out) (sym (numbered-append T (start_facts T) (none_open T 0)))
-    (joined-more c.args.out.now c.put-start-facts.new.out c.put-none-open.new.out (numbered T (start_facts T)) (numbered T (none_open T 0)) c.put-start-facts.ensures c.put-none-open.ensures)
+    subst (Joined c.args.out.now c.put_none_open.new.out) (sym (numbered-append T (start_facts T) (none_open T 0)))
+    (joined-more c.args.out.now c.put_start_facts.new.out c.put_none_open.new.out (numbered T (start_facts T)) (numbered T (none_open T 0)) c.put_start_facts.ensures c.put_none_open.ensures)

@@ -16,8 +16,8 @@ pub loop-i-init : goal.loop-i-init
 unfolding total each
 loop-i-init g c = (refl, omega arith, joined-none c.args.out.now)
 
-pub put-chain-requires : goal.put-chain-requires
-put-chain-requires g c = (
+pub put_chain-requires : goal.put_chain-requires
+put_chain-requires g c = (
   search rules,
   (
     omega (arith, c.args.self.now.table.now.sizes, c.facts-i-end.ensures),
@@ -28,14 +28,14 @@ put-chain-requires g c = (
   ),
 )
 
-pub overflow-add-before : goal.overflow-add-before
-overflow-add-before g c = omega (arith, c.args.self.now.table.now.sizes, c.facts-i-end.ensures, c.loop-i.invariant.1, c.width-width.ensures, width-le (table_in c.args.self.now) (c.loop-i.i + 1))
+pub overflow_add-before : goal.overflow_add-before
+overflow_add-before g c = omega (arith, c.args.self.now.table.now.sizes, c.facts-i-end.ensures, c.loop-i.invariant.1, c.width-width.ensures, width-le (table_in c.args.self.now) (c.loop-i.i + 1))
 
 pub loop-i-preserved : goal.loop-i-preserved
 loop-i-preserved g c = (
   ap₂ ◌+◌ c.loop-i.invariant.0 c.width-width.ensures ∙ sym (total-more c.loop-i.i (width (table_in c.args.self.now))),
   omega (arith, c.args.self.now.table.now.sizes, c.loop-i.invariant.1, c.width-width.ensures, width-le (table_in c.args.self.now) (c.loop-i.i + 1)),
-  joined-next c.args.out.now c.loop-i.out c.put-chain.new.out c.loop-i.i (truth_from (table_in c.args.self.now)) _ c.loop-i.invariant.2 c.put-chain.ensures
+  joined-next c.args.out.now c.loop-i.out c.put_chain.new.out c.loop-i.i (truth_from (table_in c.args.self.now)) _ c.loop-i.invariant.2 c.put_chain.ensures
       (ap (λ b. truth_at (table_in c.args.self.now) (c.loop-i.i + 1) (variables (table_in c.args.self.now) 0) b (c.loop-i.i + 1)) c.loop-i.invariant.0 ∙ sym (truth-from (table_in c.args.self.now) c.loop-i.i)),
 )
 

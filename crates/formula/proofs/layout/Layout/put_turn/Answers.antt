@@ -15,11 +15,11 @@ pub returns : goal.returns
 unfolding number
 returns g c =
     let r : relevant (table_in c.args.self.now) c.args.event c.args.chain.fact ≡ true = sym c.relevant.ensures ∙ c.if-not-relevant.false in
-    let v = ap (λ x. x + (c.args.chain.before + (c.args.count + 1))) c.before-pairs.ensures.count in
+    let v = ap (λ x. x + (c.args.chain.before + (c.args.count + 1))) c.before_pairs.ensures.count in
     record {
       count = ap (λ b. c.args.count + cond b 1 0) (sym r);
-      puts = subst (Joined c.args.out.now c.put-effect.new.out)
+      puts = subst (Joined c.args.out.now c.put_effect.new.out)
           (turn-equal _ _ _ _ _ _ _ _ _ _ _ _ c.effect-effect.ensures.needs c.effect-effect.ensures.adds c.effect-effect.ensures.deletes c.event.ensures v c.next.ensures
           ∙ ap (λ b. only b (turn (requires (table_in c.args.self.now) c.args.event c.args.chain.fact) ((table_in c.args.self.now).adds c.args.event c.args.chain.fact) ((table_in c.args.self.now).deletes c.args.event c.args.chain.fact) (variables (table_in c.args.self.now) 0 + c.args.event) (variables (table_in c.args.self.now) 0 + events (table_in c.args.self.now) + (c.args.chain.before + (c.args.count + 1))) (next_at (table_in c.args.self.now) c.args.chain.fact (variables (table_in c.args.self.now) 0) c.args.chain.before (c.args.count + 1)))) (sym r))
-          c.put-effect.ensures;
+          c.put_effect.ensures;
     }

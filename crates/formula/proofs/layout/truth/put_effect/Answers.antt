@@ -7,4 +7,4 @@ use Rattle.formula.proofs.layout.truth.put_effect.Goals as goal
 
 pub returns : goal.returns
 unfolding turn
-returns g c = joined-two c.args.out.now c.put-if.new.out c.put-passed-on.new.out _ _ _ c.put-if.ensures c.put-passed-on.ensures refl
+returns g c = joined-two c.args.out.now c.put_if.new.out c.put_passed_on.new.out _ _ _ c.put_if.ensures c.put_passed_on.ensures refl

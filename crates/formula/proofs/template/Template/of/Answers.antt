@@ -19,19 +19,19 @@ use Rattle.formula.proofs.template.Template.of.Goals as goal
 made : {N : ℕ} (S T : Table) (s t : Listing N) (f : Table → List Clause) → S ≡ T → s.count ≡ 0 → length (numbered T (f T)) ≤ N → Joined s t (numbered S (f S)) → listed t ≡ numbered T (f T)
 made S T s t f e z h j = filled s t (numbered T (f T)) z h (subst (λ U. Joined s t (numbered U (f U))) e j)
 
-families : (c : goal.After-step-size-step-size) → Templated (meant c.args.table.now) (record { start = c.put-start.new.out; agenda = c.put-agenda.new.out; kept = c.put-kept.new.out; truth = c.put-truth.new.out; goal' = c.put-goal.new.out; step_size = c.step-size-step-size.result })
+families : (c : goal.After-step_size-step_size) → Templated (meant c.args.table.now) (record { start = c.put_start.new.out; agenda = c.put_agenda.new.out; kept = c.put_kept.new.out; truth = c.put_truth.new.out; goal' = c.put_goal.new.out; step_size = c.step_size-step_size.result })
 families c =
     let T = meant c.args.table.now in
     let S = table_in c.of-layout.result in
     let e : S ≡ T = ap meant c.of-layout.ensures in
     let small : Small T = (c.args.table.now.sizes.1, c.args.table.now.sizes.3) in
     record {
-      start = made S T c.none-start.result c.put-start.new.out start e c.none-start.ensures (start-length T small) c.put-start.ensures;
-      agenda = made S T c.none-agenda.result c.put-agenda.new.out (λ U. agenda U 0) e c.none-agenda.ensures (agenda-length T small) c.put-agenda.ensures;
-      kept = made S T c.none-kept.result c.put-kept.new.out (λ U. kept U 0) e c.none-kept.ensures (kept-length T small) c.put-kept.ensures;
-      truth = made S T c.none-truth.result c.put-truth.new.out (λ U. truth U 0) e c.none-truth.ensures (truth-length T small) c.put-truth.ensures;
-      goal' = made S T c.none-goal.result c.put-goal.new.out (λ U. goal' U 0) e c.none-goal.ensures (goal-length T small) c.put-goal.ensures;
-      size = c.step-size-step-size.ensures ∙ ap step_size e;
+      start = made S T c.none-start.result c.put_start.new.out start e c.none-start.ensures (start-length T small) c.put_start.ensures;
+      agenda = made S T c.none-agenda.result c.put_agenda.new.out (λ U. agenda U 0) e c.none-agenda.ensures (agenda-length T small) c.put_agenda.ensures;
+      kept = made S T c.none-kept.result c.put_kept.new.out (λ U. kept U 0) e c.none-kept.ensures (kept-length T small) c.put_kept.ensures;
+      truth = made S T c.none-truth.result c.put_truth.new.out (λ U. truth U 0) e c.none-truth.ensures (truth-length T small) c.put_truth.ensures;
+      goal' = made S T c.none-goal.result c.put_goal.new.out (λ U. goal' U 0) e c.none-goal.ensures (goal-length T small) c.put_goal.ensures;
+      size = c.step_size-step_size.ensures ∙ ap step_size e;
     }
 
 pub returns : goal.returns

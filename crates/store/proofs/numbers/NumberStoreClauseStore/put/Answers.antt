@@ -5,20 +5,20 @@ use Rattle.store.proofs.Meaning.{clause-parts, cost-by}
 use Rattle.store.proofs.Runs.{Wrote, count_low, wrote}
 use Rattle.store.proofs.numbers.NumberStoreClauseStore.put.Goals as goal
 
-pub overflow-add-self-2 : goal.overflow-add-self-2
-overflow-add-self-2 c =
+pub overflow_add-self-2 : goal.overflow_add-self-2
+overflow_add-self-2 c =
     let o = c.replace-numbers.result in
     let l : length o.numbers.now < 9223372036854775808 = search rules in
     omega (arith, o.within, count_low o.numbers.now o.used o.count o.within o.laid o.counted)
 
-pub invariant-of-self : goal.invariant-of-self
-invariant-of-self c =
+pub invariant_of-self : goal.invariant_of-self
+invariant_of-self c =
     let o = c.replace-numbers.result in
     let cl = c.args.clause.now in
     let e = c.replace-numbers.ensures.value in
-    let a = (clause-parts cl (sym c.if-not-is-clause.ensures)).2 in
+    let a = (clause-parts cl (sym c.if-not-is_clause.ensures)).2 in
     let f : o.used + (length cl + 1) ≤ length o.numbers.now = omega (arith, o.within, c.free.ensures, ap (λ x. length x.numbers.now) e, ap (λ x. x.used) e) in
-    let w = wrote o.numbers.now o.used o.count o.within o.laid o.counted cl c.write-clause.new.numbers a f c.write-clause.ensures in
+    let w = wrote o.numbers.now o.used o.count o.within o.laid o.counted cl c.write_clause.new.numbers a f c.write_clause.ensures in
     (omega (arith, w.same_length), (w.laid, (w.counted, tt)))
 
 pub returns : goal.returns

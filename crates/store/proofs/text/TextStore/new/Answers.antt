@@ -6,11 +6,11 @@ use Rattle.store.specs.Rendering.{header_of, largest_in, width, header_length, l
 use Rattle.store.proofs.Texts.{head-length, shown-is, room-is, head-all, head-empty, head-shown}
 use Rattle.store.proofs.text.TextStore.new.Goals as goal
 
-pub invariant-of-result-2 : goal.invariant-of-result-2
-invariant-of-result-2 c =
-    let h = c.write-header.new.header in
+pub invariant_of-result-2 : goal.invariant_of-result-2
+invariant_of-result-2 c =
+    let h = c.write_header.new.header in
     let d = c.args.bytes.now in
-    let e : h ≡ header_of width 0 0 = c.write-header.ensures in
+    let e : h ≡ header_of width 0 0 = c.write_header.ensures in
     let l : header_length ≤ length d = c.if-bytes-lt-HEADER.false in (
       omega (arith, head-all h d e l),
       (

@@ -6,29 +6,29 @@ use Rattle.store.proofs.Meaning.{clause-parts, cost-by}
 use Rattle.store.proofs.Texts.{Wrote, few-clauses, put-requires, put-wrote, put-within, put-units}
 use Rattle.store.proofs.text.TextStoreClauseStore.put.Goals as goal
 
-pub overflow-add-count : goal.overflow-add-count
-overflow-add-count c =
+pub overflow_add-count : goal.overflow_add-count
+overflow_add-count c =
     let r = c.free.ensures ∙ sym (ap (λ x. room_in (length x.bytes.now) x.used) c.replace-bytes.ensures.value) in
     omega (arith, few-clauses c.replace-bytes.result (omega (arith, c.if-free-price.false)))
 
-pub write-clause-requires : goal.write-clause-requires
-write-clause-requires c =
+pub write_clause-requires : goal.write_clause-requires
+write_clause-requires c =
     let o = c.replace-bytes.result in
     let r = c.free.ensures ∙ sym (ap (λ x. room_in (length x.bytes.now) x.used) c.replace-bytes.ensures.value) in
     let k : width * length c.args.clause.now + 3 ≤ c.free.result = omega (arith, c.if-free-price.false) in
-    let m : c.max-largest.result ≡ max o.largest c.largest-of.result = search rules in
-    let q = put-requires o c.args.clause.now c.free.result c.largest-of.result c.max-largest.result (sym c.if-not-is-clause.ensures) r k c.largest-of.ensures m in
+    let m : c.max-largest.result ≡ max o.largest c.largest_of.result = search rules in
+    let q = put-requires o c.args.clause.now c.free.result c.largest_of.result c.max-largest.result (sym c.if-not-is_clause.ensures) r k c.largest_of.ensures m in
     (q.0, (q.1, (q.2, (q.3, q.4))))
 
-pub invariant-of-self : goal.invariant-of-self
-invariant-of-self c =
+pub invariant_of-self : goal.invariant_of-self
+invariant_of-self c =
     let o = c.replace-bytes.result in
     let r = c.free.ensures ∙ sym (ap (λ x. room_in (length x.bytes.now) x.used) c.replace-bytes.ensures.value) in
     let k : width * length c.args.clause.now + 3 ≤ c.free.result = omega (arith, c.if-free-price.false) in
-    let m : c.max-largest.result ≡ max o.largest c.largest-of.result = search rules in
-    let l = sym c.if-not-is-clause.ensures in
-    let w = put-wrote o c.args.clause.now c.free.result c.largest-of.result c.max-largest.result l r k c.largest-of.ensures m c.write-clause.new.bytes c.write-clause.ensures in
-    let i = put-within o c.args.clause.now c.free.result c.largest-of.result c.max-largest.result l r k c.largest-of.ensures m c.write-clause.new.bytes w.same_length in
+    let m : c.max-largest.result ≡ max o.largest c.largest_of.result = search rules in
+    let l = sym c.if-not-is_clause.ensures in
+    let w = put-wrote o c.args.clause.now c.free.result c.largest_of.result c.max-largest.result l r k c.largest_of.ensures m c.write_clause.new.bytes c.write_clause.ensures in
+    let i = put-within o c.args.clause.now c.free.result c.largest_of.result c.max-largest.result l r k c.largest_of.ensures m c.write_clause.new.bytes w.same_length in
     (i, (w.shown, (w.counted, (w.greatest, (w.low, tt)))))
 
 pub returns : goal.returns

@@ -7,12 +7,12 @@ use Rattle.table.proofs.rows.Table.all_events.Goals as goal
 
 pub loop-pair-preserved : goal.loop-pair-preserved
 loop-pair-preserved c =
-    sym (events-next c.args.plan.now c.loop-pair.pair-index (0, 0) c.loop-pair-test.true (meant c.args.self.now) true (sym c.if-not-is-event.ensures))
+    sym (events-next c.args.plan.now c.loop-pair.pair-index (0, 0) c.loop-pair-test.true (meant c.args.self.now) true (sym c.if-not-is_event.ensures))
     ∙ c.loop-pair.invariant
 
-pub returns-then-not-is-event : goal.returns-then-not-is-event
-returns-then-not-is-event c =
-    sym (events-next c.args.plan.now c.loop-pair.pair-index (0, 0) c.loop-pair-test.true (meant c.args.self.now) false (sym c.if-not-is-event.ensures))
+pub returns-then-not-is_event : goal.returns-then-not-is_event
+returns-then-not-is_event c =
+    sym (events-next c.args.plan.now c.loop-pair.pair-index (0, 0) c.loop-pair-test.true (meant c.args.self.now) false (sym c.if-not-is_event.ensures))
     ∙ c.loop-pair.invariant
 
 pub returns : goal.returns

@@ -22,8 +22,8 @@ uncounted : false ≡ some_note (λ (r : Role) a p. false)
 unfolding some_note some
 uncounted = refl
 
-pub invariant-of-result : goal.invariant-of-result
-invariant-of-result c =
+pub invariant_of-result : goal.invariant_of-result
+invariant_of-result c =
     let h = none c.none-none.result c.none-none.ensures in (
       c.requires,
       (

@@ -10,7 +10,7 @@ use Rattle.table.proofs.rows.Table.first_fault.Goals as goal
 
 pub play-requires : goal.play-requires
 play-requires c k l =
-    let h = events-within (meant c.args.self.now) c.args.n c.args.plan.now c.in-default.ensures k l in
+    let h = events-within (meant c.args.self.now) c.args.n c.args.plan.now c.in_default.ensures k l in
     omega (arith, h)
 
 pub returns-in-Some : goal.returns-in-Some
@@ -24,7 +24,7 @@ pub returns-in-Err : goal.returns-in-Err
 returns-in-Err c =
     let T = meant c.args.self.now in
     let f : Some c.in-Err.fault ≡ plan_fault T c.args.n c.args.plan.now =
-    at-event T c.args.n c.args.plan.now c.in-default.ensures c.in-Err.fault c.in-Err.ensures in
+    at-event T c.args.n c.args.plan.now c.in_default.ensures c.in-Err.fault c.in-Err.ensures in
     record { fault = f; valid = valid-if T c.args.n c.args.plan.now _ f; invalid = if-valid T c.args.n c.args.plan.now _ f }
 
 pub returns-in-Some-unmet : goal.returns-in-Some-unmet
@@ -32,7 +32,7 @@ returns-in-Some-unmet c =
     let T = meant c.args.self.now in
     let s = state_of c.in-Ok.state in
     let f : Some (WrongEnding c.in-Some-unmet.unmet) ≡ plan_fault T c.args.n c.args.plan.now =
-    at-end T c.args.n c.args.plan.now c.in-default.ensures c.in-Ok.ensures.0 s c.in-Ok.ensures.1 (Some c.in-Some-unmet.unmet) c.in-Some-unmet.ensures in
+    at-end T c.args.n c.args.plan.now c.in_default.ensures c.in-Ok.ensures.0 s c.in-Ok.ensures.1 (Some c.in-Some-unmet.unmet) c.in-Some-unmet.ensures in
     record { fault = f; valid = valid-if T c.args.n c.args.plan.now _ f; invalid = if-valid T c.args.n c.args.plan.now _ f }
 
 pub returns-in-None : goal.returns-in-None
@@ -40,5 +40,5 @@ returns-in-None c =
     let T = meant c.args.self.now in
     let s = state_of c.in-Ok.state in
     let f : None ≡ plan_fault T c.args.n c.args.plan.now =
-    at-end T c.args.n c.args.plan.now c.in-default.ensures c.in-Ok.ensures.0 s c.in-Ok.ensures.1 None c.in-None.ensures in
+    at-end T c.args.n c.args.plan.now c.in_default.ensures c.in-Ok.ensures.0 s c.in-Ok.ensures.1 None c.in-None.ensures in
     record { fault = f; valid = valid-if T c.args.n c.args.plan.now _ f; invalid = if-valid T c.args.n c.args.plan.now _ f }

@@ -8,4 +8,4 @@ use Rattle.table.proofs.rows.Table.initially.Goals as goal
 pub returns : goal.returns
 unfolding initially
 returns c =
-    ap₂ (λ (h o : ℕ → Bool). record { holds = h; is_open = o }) (fun_ext c.facts-of.ensures) (fun_ext c.none.ensures)
+    ap₂ (λ (h o : ℕ → Bool). record { holds = h; is_open = o }) (fun_ext c.facts_of.ensures) (fun_ext c.none.ensures)

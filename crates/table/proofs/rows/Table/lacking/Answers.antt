@@ -11,11 +11,11 @@ pub loop-i-init : goal.loop-i-init
 loop-i-init c = lowest-none _
 
 pub loop-i-preserved : goal.loop-i-preserved
-loop-i-preserved c = lowest-more c.loop-i.i (lacks (meant c.args.self.now) c.args.event (state_of c.args.state.now)) c.loop-i.invariant (sym (ap₂ (λ a b. a && not b) c.requires-fact.ensures c.holds.ensures) ∙ sym c.if-but-not.ensures)
+loop-i-preserved c = lowest-more c.loop-i.i (lacks (meant c.args.self.now) c.args.event (state_of c.args.state.now)) c.loop-i.invariant (sym (ap₂ (λ a b. a && not b) c.requires_fact.ensures c.holds.ensures) ∙ sym c.if-but_not.ensures)
 
-pub returns-then-but-not : goal.returns-then-but-not
-returns-then-but-not c =
-    lowest-found c.args.self.now.facts c.loop-i.i (lacks (meant c.args.self.now) c.args.event (state_of c.args.state.now)) c.loop-i.invariant (sym (ap₂ (λ a b. a && not b) c.requires-fact.ensures c.holds.ensures) ∙ sym c.if-but-not.ensures) (omega arith)
+pub returns-then-but_not : goal.returns-then-but_not
+returns-then-but_not c =
+    lowest-found c.args.self.now.facts c.loop-i.i (lacks (meant c.args.self.now) c.args.event (state_of c.args.state.now)) c.loop-i.invariant (sym (ap₂ (λ a b. a && not b) c.requires_fact.ensures c.holds.ensures) ∙ sym c.if-but_not.ensures) (omega arith)
 
 pub returns : goal.returns
 returns c =

@@ -11,11 +11,11 @@ pub loop-i-init : goal.loop-i-init
 loop-i-init c = lowest-none _
 
 pub loop-i-preserved : goal.loop-i-preserved
-loop-i-preserved c = lowest-more c.loop-i.i (state_of c.args.state.now).is_open c.loop-i.invariant (sym c.is-open.ensures ∙ c.if-is-open.false)
+loop-i-preserved c = lowest-more c.loop-i.i (state_of c.args.state.now).is_open c.loop-i.invariant (sym c.is_open.ensures ∙ c.if-is_open.false)
 
-pub returns-then-is-open : goal.returns-then-is-open
-returns-then-is-open c =
-    lowest-found c.args.self.now.actions c.loop-i.i (state_of c.args.state.now).is_open c.loop-i.invariant (sym c.is-open.ensures ∙ c.if-is-open.true) (omega arith)
+pub returns-then-is_open : goal.returns-then-is_open
+returns-then-is_open c =
+    lowest-found c.args.self.now.actions c.loop-i.i (state_of c.args.state.now).is_open c.loop-i.invariant (sym c.is_open.ensures ∙ c.if-is_open.true) (omega arith)
 
 pub returns : goal.returns
 returns c =

@@ -10,10 +10,10 @@ use Rattle.table.proofs.Keeps.{fit, in-places, done}
 use Rattle.table.proofs.Written.{added, keeps, with-note}
 use Rattle.table.proofs.rows.Table.note.Goals as goal
 
-pub invariant-of-self : goal.invariant-of-self
-invariant-of-self c =
+pub invariant_of-self : goal.invariant_of-self
+invariant_of-self c =
     let t = c.args.self.now in
-    let g = fit (entries_of t) c.in-Some.known c.args.action c.args.fact (sym c.in-ok-permits-note.ensures) in
+    let g = fit (entries_of t) c.in-Some.known c.args.action c.args.fact (sym c.in_ok-permits_note.ensures) in
     let small = in-places t.facts t.actions c.in-Some.known c.args.action c.args.fact t.sizes g.inside in
     let small-number = number_small c.in-Some.known in
     let h : c.number-place.result < length t.rows = search rules in
@@ -25,7 +25,7 @@ invariant-of-self c =
 pub returns : goal.returns
 returns c =
     let t = c.args.self.now in
-    let e = c.in-ok-permits-note.ensures in
+    let e = c.in_ok-permits_note.ensures in
     let g = fit (entries_of t) c.in-Some.known c.args.action c.args.fact (sym e) in
     let small = in-places t.facts t.actions c.in-Some.known c.args.action c.args.fact t.sizes g.inside in
     let small-number = number_small c.in-Some.known in

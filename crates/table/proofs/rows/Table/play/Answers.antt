@@ -17,7 +17,7 @@ loop-i-init c = (
 pub loop-i-preserved : goal.loop-i-preserved
 loop-i-preserved c = (
   stuck-next c.args.plan.now c.loop-i.i (0, 0) c.loop-i-test.true (meant c.args.self.now) (state_of c.loop-i.state) (c.loop-i.i + 1)
-      (state_of c.run-state.result) c.run-state.ensures (sym c.in-default.ensures)
+      (state_of c.run-state.result) c.run-state.ensures (sym c.in_default.ensures)
       ∙ c.loop-i.invariant.0,
   run-next c.args.plan.now c.loop-i.i (0, 0) c.loop-i-test.true (meant c.args.self.now) (state_of c.loop-i.state)
       (state_of c.run-state.result) c.run-state.ensures

@@ -6,8 +6,8 @@ use Rattle.table.specs.Model.{entries_of}
 use Rattle.table.proofs.Keeps.{within-sized, size-fit}
 use Rattle.table.proofs.rows.Table.resize.Goals as goal
 
-pub invariant-of-self : goal.invariant-of-self
-invariant-of-self c =
+pub invariant_of-self : goal.invariant_of-self
+invariant_of-self c =
     let t = c.args.self.now in
-    let g = size-fit (entries_of t) c.args.facts c.args.actions (sym c.in-ok-permits-size.ensures) in
+    let g = size-fit (entries_of t) c.args.facts c.args.actions (sym c.in_ok-permits_size.ensures) in
     (g.0, (within-sized t.facts t.actions c.args.facts c.args.actions (noted_in t.rows) t.sizes g.1 t.within, (t.apart, (t.counted, tt))))

@@ -14,11 +14,11 @@ pub loop-i-init : goal.loop-i-init
 loop-i-init c = lowest-none _
 
 pub loop-i-preserved : goal.loop-i-preserved
-loop-i-preserved c = lowest-more c.loop-i.i (robs (meant c.args.self.now) c.args.event (state_of c.args.state.now)) c.loop-i.invariant (sym (ap₃ (c.loop-i.i + 1) c.owner.ensures c.is-open.ensures c.harms.ensures) ∙ sym c.if-robbing.ensures)
+loop-i-preserved c = lowest-more c.loop-i.i (robs (meant c.args.self.now) c.args.event (state_of c.args.state.now)) c.loop-i.invariant (sym (ap₃ (c.loop-i.i + 1) c.owner.ensures c.is_open.ensures c.harms.ensures) ∙ sym c.if-robbing.ensures)
 
 pub returns-then-robbing : goal.returns-then-robbing
 returns-then-robbing c =
-    lowest-found c.args.self.now.actions c.loop-i.i (robs (meant c.args.self.now) c.args.event (state_of c.args.state.now)) c.loop-i.invariant (sym (ap₃ (c.loop-i.i + 1) c.owner.ensures c.is-open.ensures c.harms.ensures) ∙ sym c.if-robbing.ensures) (omega arith)
+    lowest-found c.args.self.now.actions c.loop-i.i (robs (meant c.args.self.now) c.args.event (state_of c.args.state.now)) c.loop-i.invariant (sym (ap₃ (c.loop-i.i + 1) c.owner.ensures c.is_open.ensures c.harms.ensures) ∙ sym c.if-robbing.ensures) (omega arith)
 
 pub returns : goal.returns
 returns c =

@@ -35,6 +35,6 @@ returns c =
     let e = c.args.event in
     ap₂ (λ (h o : ℕ → Bool). record { holds = h; is_open = o })
     (fun_ext (λ p. c.changed.ensures p ∙ ap₂ (λ x y. x || (marked c.args.state.facts p && not y))
-    (row_of E c.facts-of-added.result c.by-kind.result (cond (starts e) StartAdds EndAdds) c.owner-action.result (owner e) c.facts-of-added.ensures c.by-kind.ensures c.owner-action.ensures p)
-    (row_of E c.facts-of-deleted.result c.by-kind-2.result (cond (starts e) StartDeletes EndDeletes) c.owner-action.result (owner e) c.facts-of-deleted.ensures c.by-kind-2.ensures c.owner-action.ensures p)))
+    (row_of E c.facts_of-added.result c.by_kind.result (cond (starts e) StartAdds EndAdds) c.owner-action.result (owner e) c.facts_of-added.ensures c.by_kind.ensures c.owner-action.ensures p)
+    (row_of E c.facts_of-deleted.result c.by_kind-2.result (cond (starts e) StartDeletes EndDeletes) c.owner-action.result (owner e) c.facts_of-deleted.ensures c.by_kind-2.ensures c.owner-action.ensures p)))
     (fun_ext (opened c.put.new.self c.args.state.«open» e c.owner-action.result c.starts.result c.put.ensures c.owner-action.ensures c.starts.ensures (small e (omega arith))))

@@ -7,8 +7,8 @@ use Rattle.text.proofs.cursor.Reader.number.Goals as goal
 pub returns-in-len4-up : goal.returns-in-len4-up
 returns-in-len4-up c = part-read (Number c.in-Ok.n) c.args.self.now.left.now 4 c.args.self.now.at (search rules) c.in-Ok.ensures
 
-pub returns-in-default : goal.returns-in-default
-returns-in-default c = absurd (number_short c.in-Ok.n c.args.self.now.left.now c.in-Ok.ensures (search rules))
+pub returns-in_default : goal.returns-in_default
+returns-in_default c = absurd (number_short c.in-Ok.n c.args.self.now.left.now c.in-Ok.ensures (search rules))
 
 pub returns-in-Err : goal.returns-in-Err
 returns-in-Err c = (c.in-Err.k, refl, c.in-Err.ensures)
