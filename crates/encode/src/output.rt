@@ -31,8 +31,8 @@ pub fn encode(heap: Global, input: &[u8]) -> Result<Output, AllocError>
 
 // Emits the clauses of the table that the input begins with into a store of any kind. What follows the table is not looked at.
 fn write_table<S: ClauseStore>(input: &[u8], store: &mut S) -> Result<usize, Refusal>
-    ensures written { Written held units prices store.old store.new input.now result }
-    ensures grows { grew store.old store.new }
+    ensures written { Written S.ClauseStore.held S.ClauseStore.units S.ClauseStore.prices store.old store.new input.now result }
+    ensures grows { S.ClauseStore.grew store.old store.new }
 {
     if is_too_long(input) {
         return Err(Refusal::InputTooLong);

@@ -48,7 +48,7 @@ impl Counts {
     /// What the clauses of n steps cost in a store of this kind.
     pub(crate) fn price<S: ClauseStore>(&self, n: u32) -> usize
         requires { n ≤ step_limit }
-        ensures { result ≡ self.now.ones * prices.one + n * self.now.twos * prices.two + n * self.now.threes * prices.three }
+        ensures { result ≡ self.now.ones * S.ClauseStore.prices.one + n * self.now.twos * S.ClauseStore.prices.two + n * self.now.threes * S.ClauseStore.prices.three }
     {
         let n = n as usize;
         let [one, two, three, _] = S::price_list();

@@ -18,9 +18,9 @@ use table::limits::MOST_STEPS;
 
 /// Adds exactly the clauses of n steps, in their order, and returns how many there are; refused, nothing changes.
 pub fn emit<S: ClauseStore>(table: &Table, n: u32, store: &mut S) -> Result<usize, EmitFault>
-    ensures answer { result ≡ emit_answer (meant table.now) n prices (units store.old) }
-    ensures after { Emitted held units prices store.old store.new (meant table.now) n result }
-    ensures grows { grew store.old store.new }
+    ensures answer { result ≡ emit_answer (meant table.now) n S.ClauseStore.prices (S.ClauseStore.units store.old) }
+    ensures after { Emitted S.ClauseStore.held S.ClauseStore.units S.ClauseStore.prices store.old store.new (meant table.now) n result }
+    ensures grows { S.ClauseStore.grew store.old store.new }
 {
     if n < 1 || n > MOST_STEPS {
         return Err(EmitFault::StepsOutOfLimits);
@@ -31,9 +31,9 @@ pub fn emit<S: ClauseStore>(table: &Table, n: u32, store: &mut S) -> Result<usiz
 // The price of all the clauses is compared with the free units before the first is put.
 fn emit_in_limits<S: ClauseStore>(table: &Table, n: u32, store: &mut S) -> Result<usize, EmitFault>
     requires { (1 ≤ n) × (n ≤ step_limit) }
-    ensures answer { result ≡ emit_answer (meant table.now) n prices (units store.old) }
-    ensures after { Emitted held units prices store.old store.new (meant table.now) n result }
-    ensures grows { grew store.old store.new }
+    ensures answer { result ≡ emit_answer (meant table.now) n S.ClauseStore.prices (S.ClauseStore.units store.old) }
+    ensures after { Emitted S.ClauseStore.held S.ClauseStore.units S.ClauseStore.prices store.old store.new (meant table.now) n result }
+    ensures grows { S.ClauseStore.grew store.old store.new }
 {
     let template = Template::of(table);
     let counts = Counts::of(&template);
@@ -49,8 +49,8 @@ fn put_list<S: ClauseStore>(store: &mut S, template: &Template, n: u32)
     requires limits { All (All InLimits) (unrolled template.now n) }
     requires size { template.now.step_size ≤ 1104 }
     requires steps { n ≤ step_limit }
-    ensures puts { Adds held units prices store.old store.new (signs (unrolled template.now n)) }
-    ensures grows { grew store.old store.new }
+    ensures puts { Adds S.ClauseStore.held S.ClauseStore.units S.ClauseStore.prices store.old store.new (signs (unrolled template.now n)) }
+    ensures grows { S.ClauseStore.grew store.old store.new }
 {
     put_all(store, template.family(Family::Start), 0);
     for step in 0..n {
@@ -68,8 +68,8 @@ fn put_step<S: ClauseStore>(store: &mut S, template: &Template, step: u32)
     requires limits { All (All InLimits) (unrolled_step template.now step) }
     requires size { template.now.step_size ≤ 1104 }
     requires steps { step ≤ step_limit }
-    ensures puts { Adds held units prices store.old store.new (signs (unrolled_step template.now step)) }
-    ensures grows { grew store.old store.new }
+    ensures puts { Adds S.ClauseStore.held S.ClauseStore.units S.ClauseStore.prices store.old store.new (signs (unrolled_step template.now step)) }
+    ensures grows { S.ClauseStore.grew store.old store.new }
 {
     let shift = step * template.step_size();
     put_all(store, template.family(Family::Agenda), shift);

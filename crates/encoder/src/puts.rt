@@ -14,8 +14,8 @@ use store::ClauseStore;
 /// Puts clauses one after another.
 pub(crate) fn put_all<S: ClauseStore>(store: &mut S, clauses: &[Clause], shift: u32)
     requires { All (All InLimits) (shifted shift (map lits clauses.now)) }
-    ensures puts { Adds held units prices store.old store.new (signs (shifted shift (map lits clauses.now))) }
-    ensures grows { grew store.old store.new }
+    ensures puts { Adds S.ClauseStore.held S.ClauseStore.units S.ClauseStore.prices store.old store.new (signs (shifted shift (map lits clauses.now))) }
+    ensures grows { S.ClauseStore.grew store.old store.new }
 {
     for clause in clauses {
         put_clause(store, *clause, shift);
@@ -24,8 +24,8 @@ pub(crate) fn put_all<S: ClauseStore>(store: &mut S, clauses: &[Clause], shift: 
 
 fn put_clause<S: ClauseStore>(store: &mut S, clause: Clause, shift: u32)
     requires { All InLimits (moved shift clause) }
-    ensures puts { Adds held units prices store.old store.new (map signed_of (moved shift clause) ∷ []) }
-    ensures grows { grew store.old store.new }
+    ensures puts { Adds S.ClauseStore.held S.ClauseStore.units S.ClauseStore.prices store.old store.new (map signed_of (moved shift clause) ∷ []) }
+    ensures grows { S.ClauseStore.grew store.old store.new }
 {
     match clause {
         Clause::One(a) => put_signed(store, &[signed(a, shift)]),
@@ -40,8 +40,8 @@ fn put_clause<S: ClauseStore>(store: &mut S, clause: Clause, shift: u32)
 // Puts a clause. Where the free units cover its price, nothing is left to refuse.
 fn put_signed<S: ClauseStore>(store: &mut S, clause: &[i32])
     requires { is_clause clause.now ≡ true }
-    ensures puts { Adds held units prices store.old store.new (clause.now ∷ []) }
-    ensures grows { grew store.old store.new }
+    ensures puts { Adds S.ClauseStore.held S.ClauseStore.units S.ClauseStore.prices store.old store.new (clause.now ∷ []) }
+    ensures grows { S.ClauseStore.grew store.old store.new }
 {
     let _ = store.put(clause);
 }

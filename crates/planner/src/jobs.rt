@@ -24,9 +24,9 @@ impl Job {
     /// Adds exactly the clauses of n steps to a store of any kind, in their order, and returns how many there are. It grants exactly when n
     /// is 1 to 64 and the clauses' prices together fit the free units; refused, nothing changes.
     pub fn emit<S: ClauseStore>(&self, n: u32, store: &mut S) -> Result<usize, EmitFault>
-        ensures answer { result ≡ emit_answer (meant_by self.now) n prices (units store.old) }
-        ensures after { Emitted held units prices store.old store.new (meant_by self.now) n result }
-        ensures grows { grew store.old store.new }
+        ensures answer { result ≡ emit_answer (meant_by self.now) n S.ClauseStore.prices (S.ClauseStore.units store.old) }
+        ensures after { Emitted S.ClauseStore.held S.ClauseStore.units S.ClauseStore.prices store.old store.new (meant_by self.now) n result }
+        ensures grows { S.ClauseStore.grew store.old store.new }
     {
         encoder::emit(&self.table, n, store)
     }

@@ -10,8 +10,8 @@ use store::{ClauseStore, GREATEST_VARIABLE, NumberStore, PutFault, TextStore};
 /// Puts the clauses that say that variable 1 holds and that each variable up to `n` implies the next, and returns how many there
 /// are. The price of all of them is worked out first, so that either all are put or none.
 pub fn put_chain<S: ClauseStore>(store: &mut S, n: u32) -> Result<usize, PutFault>
-    ensures puts { Chained held units prices store.old store.new n result }
-    ensures grows { grew store.old store.new }
+    ensures puts { Chained S.ClauseStore.held S.ClauseStore.units S.ClauseStore.prices store.old store.new n result }
+    ensures grows { S.ClauseStore.grew store.old store.new }
 {
     if n >= GREATEST_VARIABLE {
         return Err(PutFault::ClauseOutOfLimits);

@@ -19,7 +19,7 @@ use Rattle.formula.proofs.template.Template.of.Goals as goal
 made : {N : ℕ} (S T : Table) (s t : Listing N) (f : Table → List Clause) → S ≡ T → s.count ≡ 0 → length (numbered T (f T)) ≤ N → Joined s t (numbered S (f S)) → listed t ≡ numbered T (f T)
 made S T s t f e z h j = filled s t (numbered T (f T)) z h (subst (λ U. Joined s t (numbered U (f U))) e j)
 
-families : (c : goal.After-step_size-step_size) → Templated (meant c.args.table.now) (record { start = c.put_start.new.out; agenda = c.put_agenda.new.out; kept = c.put_kept.new.out; truth = c.put_truth.new.out; goal' = c.put_goal.new.out; step_size = c.step_size-step_size.result })
+families : (c : goal.After-step_size-step_size) → Templated (meant c.args.table.now) (record { start = c.put_start.new.out; agenda = c.put_agenda.new.out; kept = c.put_kept.new.out; truth = c.put_truth.new.out; goal = c.put_goal.new.out; step_size = c.step_size-step_size.result })
 families c =
     let T = meant c.args.table.now in
     let S = table_in c.of-layout.result in
@@ -30,7 +30,7 @@ families c =
       agenda = made S T c.none-agenda.result c.put_agenda.new.out (λ U. agenda U 0) e c.none-agenda.ensures (agenda-length T small) c.put_agenda.ensures;
       kept = made S T c.none-kept.result c.put_kept.new.out (λ U. kept U 0) e c.none-kept.ensures (kept-length T small) c.put_kept.ensures;
       truth = made S T c.none-truth.result c.put_truth.new.out (λ U. truth U 0) e c.none-truth.ensures (truth-length T small) c.put_truth.ensures;
-      goal' = made S T c.none-goal.result c.put_goal.new.out (λ U. goal' U 0) e c.none-goal.ensures (goal-length T small) c.put_goal.ensures;
+      goal = made S T c.none-goal.result c.put_goal.new.out (λ U. goal' U 0) e c.none-goal.ensures (goal-length T small) c.put_goal.ensures;
       size = c.step_size-step_size.ensures ∙ ap step_size e;
     }
 

@@ -19,7 +19,7 @@ invariant_of-self c =
     let a = (clause-parts cl (sym c.if-not-is_clause.ensures)).2 in
     let f : o.used + (length cl + 1) ≤ length o.numbers.now = omega (arith, o.within, c.free.ensures, ap (λ x. length x.numbers.now) e, ap (λ x. x.used) e) in
     let w = wrote o.numbers.now o.used o.count o.within o.laid o.counted cl c.write_clause.new.numbers a f c.write_clause.ensures in
-    (omega (arith, w.same_length), (w.laid, (w.counted, tt)))
+    record { within = omega (arith, w.same_length); laid = w.laid; counted = w.counted }
 
 pub returns : goal.returns
 returns c =

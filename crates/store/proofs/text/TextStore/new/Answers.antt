@@ -11,19 +11,14 @@ invariant_of-result-2 c =
     let h = c.write_header.new.header in
     let d = c.args.bytes.now in
     let e : h ≡ header_of width 0 0 = c.write_header.ensures in
-    let l : header_length ≤ length d = c.if-bytes-lt-HEADER.false in (
-      omega (arith, head-all h d e l),
-      (
-        head-shown h d e l,
-        (
-          sym (ap length (head-empty h d e l)),
-          (
-            sym (ap largest_in (head-empty h d e l)),
-            (omega arith, tt),
-          ),
-        ),
-      ),
-    )
+    let l : header_length ≤ length d = c.if-bytes-lt-HEADER.false in
+    record {
+      within = omega (arith, head-all h d e l);
+      shown = head-shown h d e l;
+      counted = sym (ap length (head-empty h d e l));
+      greatest = sym (ap largest_in (head-empty h d e l));
+      named = omega arith;
+    }
 
 pub returns : goal.returns
 returns c =

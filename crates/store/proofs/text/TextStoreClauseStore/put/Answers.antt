@@ -29,7 +29,7 @@ invariant_of-self c =
     let l = sym c.if-not-is_clause.ensures in
     let w = put-wrote o c.args.clause.now c.free.result c.largest_of.result c.max-largest.result l r k c.largest_of.ensures m c.write_clause.new.bytes c.write_clause.ensures in
     let i = put-within o c.args.clause.now c.free.result c.largest_of.result c.max-largest.result l r k c.largest_of.ensures m c.write_clause.new.bytes w.same_length in
-    (i, (w.shown, (w.counted, (w.greatest, (w.low, tt)))))
+    record { within = i; shown = w.shown; counted = w.counted; greatest = w.greatest; named = w.low }
 
 pub returns : goal.returns
 returns c =

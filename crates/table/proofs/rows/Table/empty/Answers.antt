@@ -24,20 +24,17 @@ uncounted = refl
 
 pub invariant_of-result : goal.invariant_of-result
 invariant_of-result c =
-    let h = none c.none-none.result c.none-none.ensures in (
-      c.requires,
-      (
-        (λ r a p. ap (λ x. implies x (placed c.args.facts c.args.actions r a p)) (h r a p)),
-        (
-          (
-            (λ a p. ap (λ x. x && noted_in (replicate 10 c.none-none.result) StartDeletes a p) (h StartAdds a p)),
-            (λ a p. ap (λ x. x && noted_in (replicate 10 c.none-none.result) EndDeletes a p) (h EndAdds a p)),
-            (λ a p. ap (λ x. x && noted_in (replicate 10 c.none-none.result) Held a p) (h StartDeletes a p)),
-          ),
-          (subst (λ (N : Role → ℕ → ℕ → Bool). false ≡ some_note N) (sym (empty c.none-none.result c.none-none.ensures)) uncounted, tt),
-        ),
-      ),
-    )
+    let h = none c.none-none.result c.none-none.ensures in
+    record {
+      sizes = c.requires;
+      within = λ r a p. ap (λ x. implies x (placed c.args.facts c.args.actions r a p)) (h r a p);
+      apart = (
+        (λ a p. ap (λ x. x && noted_in (replicate 10 c.none-none.result) StartDeletes a p) (h StartAdds a p)),
+        (λ a p. ap (λ x. x && noted_in (replicate 10 c.none-none.result) EndDeletes a p) (h EndAdds a p)),
+        (λ a p. ap (λ x. x && noted_in (replicate 10 c.none-none.result) Held a p) (h StartDeletes a p)),
+      );
+      counted = subst (λ (N : Role → ℕ → ℕ → Bool). false ≡ some_note N) (sym (empty c.none-none.result c.none-none.ensures)) uncounted;
+    }
 
 pub returns : goal.returns
 returns c =

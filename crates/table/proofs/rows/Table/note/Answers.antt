@@ -20,7 +20,7 @@ invariant_of-self c =
     let k = keeps t.facts t.actions t.rows c.in-Some.known c.number-place.result c.args.action c.args.fact c.add.new.self
     c.number-place.ensures h (added (get_or t.rows c.number-place.result no_notes) c.add.new.self c.args.action c.args.fact small.0 small.1 c.add.ensures) g
     t.sizes t.within t.apart in
-    (t.sizes, (k.0, (k.1, (k.2, tt))))
+    record { sizes = t.sizes; within = k.0; apart = k.1; counted = k.2 }
 
 pub returns : goal.returns
 returns c =

@@ -10,4 +10,9 @@ pub invariant_of-self : goal.invariant_of-self
 invariant_of-self c =
     let t = c.args.self.now in
     let g = size-fit (entries_of t) c.args.facts c.args.actions (sym c.in_ok-permits_size.ensures) in
-    (g.0, (within-sized t.facts t.actions c.args.facts c.args.actions (noted_in t.rows) t.sizes g.1 t.within, (t.apart, (t.counted, tt))))
+    record {
+      sizes = g.0;
+      within = within-sized t.facts t.actions c.args.facts c.args.actions (noted_in t.rows) t.sizes g.1 t.within;
+      apart = t.apart;
+      counted = t.counted;
+    }
