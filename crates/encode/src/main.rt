@@ -11,6 +11,3 @@ fn main(rt: HostRuntime) -> Result<(), Stop> {
     let output = encode(rt.alloc(), input.as_slice())?;
     print_output(&rt, &output)
 }
-
-#[cfg(test)]
-mod tests;

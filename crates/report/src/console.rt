@@ -9,7 +9,7 @@ use std::io;
 use std::io::{Read, Write};
 
 /// Why a program ends with status 1: it printed a refusal, or it could not read, print or get memory.
-#[derive(Drop)]
+#[derive(Debug, Drop)]
 pub enum Stop {
     Refused,
     Failed(io::Error),

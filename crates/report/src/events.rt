@@ -36,7 +36,7 @@ fn push_lines(lines: &mut Vec<u8>, plan: &[(u32, u32)]) -> Result<(), AllocError
 {
     for pair in plan {
         let (step, event) = *pair;
-        let line = event_line(lines.allocator(), step, event)?;
+        let line = event_line(*lines.allocator(), step, event)?;
         lines.extend_from_slice(line.as_slice())?;
     }
     Ok(())

@@ -6,7 +6,7 @@ use Rattle.text.proofs.Runs.{stop-within, stop-outcome, done-outcome}
 use Rattle.text.proofs.tables.read_lines.Goals as goal
 
 pub placed-requires : goal.placed-requires
-placed-requires c x =
+placed-requires c =
     stop-within (in_draft c.args.draft.now) (in_draft c.table.new.draft) c.new-reader.result c.table.new.self c.args.text.now c.in-Err.stop
     c.new-reader.ensures.0 c.new-reader.ensures.1 c.in-Err.ensures
 

@@ -9,17 +9,17 @@ returns-in_err-tag c =
     let p = err_from_is_err_and c.from_residual.result c.from_residual.ensures.1 in
     rw (p.1, p.2) (line-tag c.args.from c.args.self.now c.in_err-tag.field-0.0.at c.in_err-tag.ensures)
 
-pub returns-in_err-facts : goal.returns-in_err-facts
-returns-in_err-facts c =
-    let p = err_from_is_err_and c.from_residual-in_err-facts.result c.from_residual-in_err-facts.ensures.1 in
-    rw (p.1, p.2) (line-tail c.args.from c.in_ok-tag.field-0 Sizes c.args.self.now c.tag.new.self c.in_err-facts.field-0.0.at c.in-Sizes.is c.in_ok-tag.ensures c.in_err-facts.ensures)
+pub returns-in_err-facts-in-Sizes : goal.returns-in_err-facts-in-Sizes
+returns-in_err-facts-in-Sizes c =
+    let p = err_from_is_err_and c.from_residual-in_err-facts-in-Sizes.result c.from_residual-in_err-facts-in-Sizes.ensures.1 in
+    rw (p.1, p.2) (line-tail c.args.from c.in_ok-tag.field-0 Sizes c.args.self.now c.tag.new.self c.in_err-facts-in-Sizes.field-0.0.at c.in-Sizes.is c.in_ok-tag.ensures c.in_err-facts-in-Sizes.ensures)
 
-pub returns-in_err-action : goal.returns-in_err-action
-returns-in_err-action c =
-    let p = err_from_is_err_and c.from_residual-in_err-action.result c.from_residual-in_err-action.ensures.1 in
-    rw (p.1, p.2) (line-tail c.args.from c.in_ok-tag.field-0 (Note c.in-Note.role) c.args.self.now c.tag.new.self c.in_err-action.field-0.0.at c.in-Note.is c.in_ok-tag.ensures c.in_err-action.ensures)
+pub returns-in_err-action-in-Note : goal.returns-in_err-action-in-Note
+returns-in_err-action-in-Note c =
+    let p = err_from_is_err_and c.from_residual-in_err-action-in-Note.result c.from_residual-in_err-action-in-Note.ensures.1 in
+    rw (p.1, p.2) (line-tail c.args.from c.in_ok-tag.field-0 (Note c.in-Note.role) c.args.self.now c.tag.new.self c.in_err-action-in-Note.field-0.0.at c.in-Note.is c.in_ok-tag.ensures c.in_err-action-in-Note.ensures)
 
-pub returns-in_err-end : goal.returns-in_err-end
-returns-in_err-end c =
-    let p = err_from_is_err_and c.from_residual-in_err-end.result c.from_residual-in_err-end.ensures.1 in
-    rw (p.1, p.2) (line-tail c.args.from c.in_ok-tag.field-0 Close c.args.self.now c.tag.new.self c.in_err-end.field-0.0.at c.in-Close.is c.in_ok-tag.ensures c.in_err-end.ensures)
+pub returns-in_err-end-in-Close : goal.returns-in_err-end-in-Close
+returns-in_err-end-in-Close c =
+    let p = err_from_is_err_and c.from_residual-in_err-end-in-Close.result c.from_residual-in_err-end-in-Close.ensures.1 in
+    rw (p.1, p.2) (line-tail c.args.from c.in_ok-tag.field-0 Close c.args.self.now c.tag.new.self c.in_err-end-in-Close.field-0.0.at c.in-Close.is c.in_ok-tag.ensures c.in_err-end-in-Close.ensures)
