@@ -13,15 +13,15 @@ use Rattle.encode.specs.Printed.{Prints, store_size}
 use Rattle.encode.proofs.Printing.{prints-refusal, prints-text, shown-whole}
 use Rattle.encode.proofs.output.encode.Goals as goal
 
-pub returns-in_ok-text : goal.returns-in_ok-text
-returns-in_ok-text c =
+pub returns-in_ok-text-in-Ok : goal.returns-in_ok-text-in-Ok
+returns-in_ok-text-in-Ok c =
     let free = c.new-store.ensures.free ∙ ap (λ (n : ℕ). min n longest_text - header_length) (length-replicate {A = ℕ} store_size 32) in
     let t = c.write_table.new.store in
     let n = c.new-store.ensures in
     let w = c.in-Ok.ensures in
     let left = text-left c.new-store.result t (replicate {A = ℕ} store_size 32) (clauses_of (take t.used t.bytes.now)) n.memory n.empty w.grows refl in
-    prints-text _ _ c.new-store.result t c.args.input.now free (Ok c.in-Ok.field-0) c.in-Ok.field-0 (Granted c.in_ok-text.text) refl n.empty w.written
-    (record { granted = refl; text-is = c.in_ok-text.ensures.items ∙ c.text.ensures ∙ sym t.shown ∙ left.0 ∙ shown-whole _ _ (length-replicate {A = ℕ} store_size 32) })
+    prints-text _ _ c.new-store.result t c.args.input.now free (Ok c.in-Ok.field-0) c.in-Ok.field-0 (Granted c.in_ok-text-in-Ok.text) refl n.empty w.written
+    (record { granted = refl; text-is = c.in_ok-text-in-Ok.ensures.items ∙ c.text.ensures ∙ sym t.shown ∙ left.0 ∙ shown-whole _ _ (length-replicate {A = ℕ} store_size 32) })
 
 pub returns-in-Err : goal.returns-in-Err
 returns-in-Err c =
