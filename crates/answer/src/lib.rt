@@ -2,6 +2,7 @@
 //!
 //! A source tells true, false or none for each variable, and its user knows nothing else of it (the trait `AnswerSource`). Two kinds
 //! stand here, a map over bytes and a list over signed numbers, and one function that works over every kind.
+#![tactic(auto)]
 
 mod list;
 mod map;

@@ -1,6 +1,6 @@
 -- The two cells: the tests of `Exactly`, computed.
 -- Assumes nothing.
-use Rattle.std.proofs.Common.{◌≡◌, ℕ, ◌+◌, true, false, [], ◌∷◌, map, length, Some, refl, ◌∙◌, subst}
+use Rattle.std.proofs.Common.{◌≡◌, ◌+◌, true, false, [], ◌∷◌, map, length, Some, refl, ◌∙◌, subst}
 use Rattle.encoding.specs.Ranges.{each, some, count, total, up_to}
 use Rattle.encoding.specs.Tables.{owner, starts, requires, relevant, harms}
 use Rattle.encoding.specs.Plans.{Valid, run, after, initially}

@@ -1,6 +1,6 @@
 -- A table whose clauses have just one satisfying assignment, from two computed tests: the assignment satisfies them, and a search forces it.
 -- Assumes nothing.
-use Rattle.std.proofs.Common.{◌≡◌, ℕ, zero, suc, ◌≤◌, Bool, true, false, cond, not, ◌&&◌, ◌↔◌, List, [], ◌∷◌, ◌++◌, sym, refl, ap, ◌∙◌, subst, ⊎_elim, arith}
+use Rattle.std.proofs.Common.{◌≡◌, ℕ, Bool, true, false, cond, not, ◌&&◌, ◌↔◌, List, [], ◌∷◌, sym, refl, ◌∙◌, subst}
 use Rattle.std.specs.List.{AllByRecursion as All}
 use Rattle.std.proofs.lemmas.Bool.{and_parts, true≢false}
 use Rattle.encoding.specs.Ranges.{Each, each}
@@ -11,7 +11,7 @@ use Rattle.encoding.specs.Clauses.{Literal, is, isnt, literal_holds, clause_hold
 use Rattle.encoding.specs.Values.{values, assignment, plan_of}
 use Rattle.encoding.proofs.Ranges.{all-each}
 use Rattle.encoding.proofs.Whole.{encodes}
-use Rattle.cells.proofs.Propagation.{Search, Known, know, forces, forced}
+use Rattle.cells.proofs.Propagation.{Search, know, forces, forced}
 
 -- whether all clauses hold
 unfoldable pub all_hold : (ℕ → Bool) → List (List (Literal ℕ)) → Bool

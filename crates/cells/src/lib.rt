@@ -1,4 +1,6 @@
 // Two small cells: what is known of them, proved about the definitions that everything else rests on.
+#![tactic(auto)]
+
 ghost use Rattle.cells.specs.Facts.{SmallCells};
 
 // Cell one, an action whose end adds the goal: its clauses for one step are the printed ones, and only 3, 4, 6 true satisfies them.

@@ -1,7 +1,7 @@
 -- From what was written into the store to what is printed.
 -- Assumes nothing.
-use Rattle.std.proofs.Common.{◌≡◌, ℕ, ◌-◌, true, false, List, [], ◌++◌, ℤ, Ok, Err, Result, sym, refl, ap, ◌∙◌, subst, arith}
-use Rattle.encoder.specs.Emission.{Emitted, emit_answer}
+use Rattle.std.proofs.Common.{◌≡◌, ℕ, ◌-◌, List, [], ◌++◌, ℤ, Ok, Err, Result, ap, ◌∙◌, subst, arith}
+use Rattle.encoder.specs.Emission.{emit_answer}
 use Rattle.encoding.specs.Clauses.{signed_formula}
 use Rattle.refusal.specs.declared.causes.Refusal.{Refusal}
 use Rattle.refusal.specs.Codes.{code_of}
@@ -9,7 +9,7 @@ use Rattle.report.specs.declared.outputs.Output.{Output}
 use Rattle.report.specs.Outputs.{Grants, Refuses}
 use Rattle.store.specs.Rendering.{header_length, shown_in, text_of, text_prices, width}
 use Rattle.table.specs.Meaning.{meaning}
-use Rattle.encode.specs.Printed.{Prints, Written, emission, exceeds, granted, long, not_put, not_read, put, refused, store_size, unread}
+use Rattle.encode.specs.Printed.{Prints, Written, exceeds, granted, long, not_put, not_read, put, refused, store_size, unread}
 
 same-refusal : (r : Result ℕ Refusal) (x y : Refusal) → r ≡ Err x → r ≡ Err y → x ≡ y
 same-refusal r x y p q = cc

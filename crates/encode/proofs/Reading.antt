@@ -1,6 +1,6 @@
 -- A new draft is blank, so what is read into it is what the input says.
 -- Assumes nothing.
-use Rattle.std.proofs.Common.{◌≡◌, ℕ, Bool, false, List, sym, ap, ◌∙◌, subst}
+use Rattle.std.proofs.Common.{◌≡◌, ℕ, Bool, false, List, sym, ◌∙◌, subst}
 use Rattle.report.specs.Outputs.{too_long}
 use Rattle.table.specs.Entries.{Entries, blank}
 use Rattle.text.specs.Outcomes.{Answer, NoOther, Outcome}

@@ -1,5 +1,6 @@
 //! The program `encode`: reads a table text from standard input and prints its clauses as a text in the DIMACS CNF form, or the line of a
 //! refusal. A refusal ends it with status 1, and so does a failure to read, to print or to get memory; otherwise the status is 0.
+#![tactic(auto)]
 
 mod output;
 

@@ -1,9 +1,8 @@
 -- Clauses put one after another into any kind of store.
 -- Assumes nothing.
-use Rattle.std.proofs.Common.{◌≡◌, ℕ, ◌+◌, ◌<◌, ◌≤◌, Bool, true, false, List, [], ◌∷◌, ◌++◌, map, length, ℤ, Ok, Err, Result, sym, refl, ap, ◌∙◌, subst, arith}
+use Rattle.std.proofs.Common.{◌≡◌, ℕ, true, List, [], ◌∷◌, ◌++◌, ℤ, Ok, Err, Result, subst, arith}
 use Rattle.store.specs.declared.clauses.PutFault.{PutFault}
-use Rattle.store.specs.declared.clauses.PutFault.TheVariants.{ClauseOutOfLimits, PriceExceedsFree}
-use Rattle.store.specs.Clauses.{Added, Prices, Put, cost, is_clause, price_of}
+use Rattle.store.specs.Clauses.{Prices, Put, is_clause}
 use Rattle.store.proofs.Adding.{added_more, added_none, added-one, price-append}
 use Rattle.store.proofs.Meaning.{no-refusal}
 use Rattle.encoder.specs.Puts.{Adds}

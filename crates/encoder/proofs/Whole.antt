@@ -1,26 +1,23 @@
 -- The whole list: its limits, its counts and its price, from the template of its table.
 -- Assumes nothing.
-use Rattle.std.proofs.Common.{◌≡◌, ℕ, ◌+◌, ◌*◌, ◌<◌, ◌≤◌, Bool, true, false, cond, not, eqb, ltb, leb, List, [], ◌∷◌, ◌++◌, map, length, ℤ, Ok, Err, sum_by, Result, sym, refl, ap, ◌∙◌, subst, ap₂, arith}
+use Rattle.std.proofs.Common.{◌≡◌, ℕ, ◌+◌, ◌*◌, ◌<◌, ◌≤◌, cond, eqb, List, [], ◌∷◌, ◌++◌, map, length, ℤ, Ok, Err, Result, sym, refl, ap, ◌∙◌, subst, ap₂, arith}
 use lib.ListN.{length-map}
 use Rattle.std.specs.List.{AllByRecursion as All}
 use Rattle.std.proofs.lemmas.List.Sums.{sum_by-append, sum_by-cons}
-use Rattle.std.proofs.lemmas.Bool.{lt-ltb, le-ltb}
 use Rattle.std.proofs.lemmas.Bool.Decides.{nat_tests}
-use Rattle.encoding.specs.Clauses.{agenda, formula, goal, kept, numbered, rename, signed, signed_formula, start, step, truth}
+use Rattle.encoding.specs.Clauses.{agenda, formula, goal, kept, rename, signed, signed_formula, start, step, truth}
 use Rattle.encoding.specs.Counts.{of_length, ones, price, threes, twos}
 use Rattle.encoding.specs.Limits.{step_limit}
 use Rattle.encoding.specs.Ranges.{count}
 use Rattle.encoding.specs.Tables.{Table}
 use Rattle.encoding.specs.Theorem.{Small}
-use Rattle.encoding.specs.Variables.{number, pairs, step_size}
+use Rattle.encoding.specs.Variables.{number, step_size}
 use Rattle.encoding.proofs.Bounds.{bounded}
 use Rattle.encoding.proofs.Counting.{counted, price-map, tally-goal, tally-start, tally-step}
 use Rattle.store.specs.Clauses.{Prices, cost, price_of}
-use Rattle.table.specs.Entries.{from}
-use Rattle.formula.specs.declared.template.Family.TheVariants.{Start, Agenda, Kept, Truth, Goal}
+use Rattle.formula.specs.declared.template.Family.TheVariants.{Start, Goal}
 use Rattle.formula.specs.declared.template.Template.{Template}
-use Rattle.formula.specs.Listings.{lits}
-use Rattle.formula.specs.Templates.{Templated, family_in, said, unrolled}
+use Rattle.formula.specs.Templates.{Templated, said, unrolled}
 use Rattle.formula.proofs.Bounds.{agenda-length, goal-length, kept-length, start-length, truth-length}
 use Rattle.formula.proofs.Unrolling.{unrolled-is}
 use Rattle.encoder.specs.declared.faults.EmitFault.{EmitFault}

@@ -1,6 +1,6 @@
 -- What emitting a table's clauses for n steps answers, and what becomes of the store.
 -- Assumes nothing.
-use Rattle.std.specs.Prelude.{◌≡◌, ℕ, Bool, cond, not, List, length, ℤ, Ok, Err, Result, nat_lt}
+use Rattle.std.specs.Prelude.{◌≡◌, ℕ, cond, not, List, length, ℤ, Ok, Err, Result, nat_lt}
 use Rattle.encoding.specs.Clauses.{signed_formula}
 use Rattle.encoding.specs.Limits.{step_limit}
 use Rattle.encoding.specs.Tables.{Table}

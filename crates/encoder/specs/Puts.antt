@@ -1,7 +1,6 @@
 -- Clauses put one after another, for the contracts of inner functions. No public contract cites it.
 -- Assumes nothing.
-use Rattle.std.specs.Prelude.{◌≡◌, ℕ, ◌+◌, ◌*◌, ◌≤◌, List, ◌++◌, map, length, ℤ}
-use Rattle.std.specs.List.{AllByRecursion as All}
+use Rattle.std.specs.Prelude.{ℕ, ◌+◌, ◌≤◌, List, map, length, ℤ}
 use Rattle.encoding.specs.Clauses.{Literal, rename, signed, variable}
 use Rattle.encoding.specs.Counts.{of_length}
 use Rattle.encoding.specs.Limits.{literal_limit}
@@ -10,7 +9,7 @@ use Rattle.formula.specs.declared.clauses.Clause.{Clause}
 use Rattle.formula.specs.declared.template.Family.TheVariants.{Start, Agenda, Kept, Truth, Goal}
 use Rattle.formula.specs.declared.template.Template.{Template}
 use Rattle.formula.specs.Listings.{lits}
-use Rattle.formula.specs.Templates.{family_in, said, shifted}
+use Rattle.formula.specs.Templates.{family_in, said}
 
 -- clauses joined the end of a store s, which is t afterwards, if the free units cover their prices
 abbrev pub Adds : {X : Type 0} (held : X → List (List ℤ)) (units : X → ℕ) (prices : Prices) (s t : X) (cs : List (List ℤ)) → Type 0

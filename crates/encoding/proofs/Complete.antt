@@ -6,7 +6,7 @@ use Rattle.encoding.specs.Ranges.{Each}
 use Rattle.encoding.specs.Tables.{Table, events, harms, owner, relevant, requires, starts}
 use Rattle.encoding.specs.Plans.{Runs, State}
 use Rattle.encoding.specs.Variables.{O, V, Y}
-use Rattle.encoding.specs.Clauses.{agenda, kept, next}
+use Rattle.encoding.specs.Clauses.{next}
 use Rattle.encoding.specs.Turns.{value_at, walk, walk_steps}
 use Rattle.encoding.proofs.Walks.{Turns, open_at, open-early, open-mid, open-through, walk-holds}
 use Rattle.encoding.proofs.Steps.{Step}

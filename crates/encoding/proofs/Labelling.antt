@@ -8,12 +8,10 @@ use Rattle.std.proofs.lemmas.Bool.{true≢false}
 use Rattle.encoding.specs.Ranges.{Each, each}
 use Rattle.encoding.specs.Tables.{Table}
 use Rattle.encoding.specs.Variables.{number}
-use Rattle.encoding.specs.Clauses.{Clause, Literal, Satisfies, agenda, clause_holds, formula, goal, kept, numbered, rename, same, start, step, truth}
+use Rattle.encoding.specs.Clauses.{Clause, Literal, Satisfies, agenda, clause_holds, formula, goal, kept, numbered, rename, start, step, truth}
 use Rattle.encoding.specs.Labels.{Label, Labelled, first_false, label, labelled, labelled_step, unlabelled}
 use Rattle.encoding.specs.Theorem.{Labels}
 use Rattle.encoding.proofs.Ranges.{each_all, each-cong, map_each}
-use Rattle.encoding.proofs.Plans.{steps}
-use Rattle.encoding.proofs.Whole.{place}
 use Rattle.encoding.proofs.Emitting.{formula-is, numbered-append, numbered-each}
 
 module _ (T : Table) where

@@ -1,10 +1,9 @@
 -- Each family of step s + 1 is that of the first step with s times the step's size added to each variable; and so is the goal's.
 -- Assumes nothing.
-use Rattle.std.proofs.Common.{◌≡◌, ℕ, zero, suc, ◌+◌, ◌*◌, Bool, List, [], ◌∷◌, ◌++◌, map, sym, refl, ap, ◌∙◌, ap₂, suc-mul, zero-mul, arith}
+use Rattle.std.proofs.Common.{◌≡◌, ℕ, zero, suc, ◌+◌, ◌*◌, List, [], ◌∷◌, ◌++◌, map, sym, refl, ap, ◌∙◌, ap₂, suc-mul, zero-mul, arith}
 use Rattle.std.specs.List.{AllByRecursion as All}
-use Rattle.encoding.specs.Ranges.{each}
 use Rattle.encoding.specs.Tables.{Table}
-use Rattle.encoding.specs.Variables.{InRange, O, X, step_size}
+use Rattle.encoding.specs.Variables.{InRange, step_size}
 use Rattle.encoding.specs.Clauses.{Clause, Literal, agenda, goal, goal_facts, is, isnt, kept, none_open, numbered, rename, step, truth, truth_of, variable}
 use Rattle.encoding.proofs.Ranges.{all_left, all_right, each-cong, map_each}
 use Rattle.encoding.proofs.Shifting.{agenda-later, kept-later, later, later-append, later-only, later_clauses, shift-clauses, truth_of-later}

@@ -1,7 +1,7 @@
 -- The truth clauses of a fact once more, by arithmetic alone, as a loop writes them: the variable that a value is handed on to is found
 -- by counting, with no search for the next relevant event. proofs/Emitting.antt has that they are those of `Clauses`.
 -- Assumes nothing.
-use Rattle.std.specs.Prelude.{ℕ, ◌+◌, Bool, cond, List, ◌++◌, nat_lt}
+use Rattle.std.specs.Prelude.{ℕ, ◌+◌, cond, List, ◌++◌, nat_lt}
 use Rattle.encoding.specs.Ranges.{each, count, only}
 use Rattle.encoding.specs.Tables.{Table, events, requires, relevant}
 use Rattle.encoding.specs.Variables.{width, pairs}

@@ -1,6 +1,6 @@
 -- A fact is relevant to no more events than there are; and no family has more clauses than its listing has room for.
 -- Assumes nothing.
-use Rattle.std.proofs.Common.{ℕ, zero, suc, ◌-◌, ◌*◌, ◌≤◌, Bool, true, false, cond, not, ◌&&◌, eqb, List, [], ◌∷◌, ◌++◌, length, suc-mul, arith, length-append}
+use Rattle.std.proofs.Common.{ℕ, zero, suc, ◌-◌, ◌*◌, ◌≤◌, Bool, true, false, cond, not, ◌&&◌, eqb, List, [], ◌∷◌, length, suc-mul, arith, length-append}
 use lib.ListN.{length-map}
 use Rattle.encoding.specs.Clauses.{Clause, agenda, agenda_of, enter, goal, goal_facts, is, isnt, kept, kept_of, next, none_open, numbered, pass_on, same, same_unless, start, start_facts, truth, truth_of, turn, turn_of}
 use Rattle.encoding.specs.Ranges.{Each, each, only}

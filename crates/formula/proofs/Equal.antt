@@ -1,6 +1,6 @@
 -- Clauses over equal variables are equal.
 -- Assumes nothing.
-use Rattle.std.proofs.Common.{◌≡◌, ℕ, Bool, true, false, List, [], ◌∷◌, ◌++◌, refl, ap, ◌∙◌, ap₂}
+use Rattle.std.proofs.Common.{◌≡◌, ℕ, Bool, true, false, List, [], ◌∷◌, ◌++◌, refl, ◌∙◌}
 use Rattle.encoding.specs.Clauses.{Literal, agenda_of, is, isnt, pass_on, same, same_unless, turn}
 use Rattle.encoding.specs.Ranges.{only}
 

@@ -1,13 +1,13 @@
 -- How listings grow: nothing, one part more, one more of a range.
 -- Assumes nothing.
-use Rattle.std.proofs.Common.{◌≡◌, ℕ, ◌+◌, ◌<◌, ◌≤◌, List, [], ◌∷◌, ◌++◌, map, length, get_or, take, set, sym, refl, ap, ◌∙◌, subst, append_assoc, append-nil, arith, length-append}
+use Rattle.std.proofs.Common.{◌≡◌, ℕ, ◌+◌, ◌<◌, ◌≤◌, List, [], ◌∷◌, ◌++◌, map, length, get_or, take, set, sym, ap, ◌∙◌, subst, append_assoc, append-nil, arith, length-append}
 use Rattle.std.proofs.lemmas.List.{map-append, take_all, take_more, take_more_set}
 use Rattle.encoding.specs.Clauses.{Literal}
 use Rattle.encoding.specs.Ranges.{each}
 use Rattle.encoding.proofs.Ranges.{each_more}
 use Rattle.formula.specs.declared.clauses.Clause.{Clause}
 use Rattle.formula.specs.declared.listing.Listing.{Listing}
-use Rattle.formula.specs.Listings.{Grew, Joined, listed, lits}
+use Rattle.formula.specs.Listings.{Joined, listed, lits}
 
 module _ {N : ℕ} where
   pub joined-none : (s : Listing N) → Joined s s []

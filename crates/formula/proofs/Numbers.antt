@@ -1,6 +1,6 @@
 -- The numbers of the first variables, and the truth clauses over them.
 -- Assumes nothing.
-use Rattle.std.proofs.Common.{◌≡◌, ℕ, suc, ◌+◌, sym, subst, zero-mul, add-one, arith}
+use Rattle.std.proofs.Common.{◌≡◌, ℕ, ◌+◌, sym, subst, zero-mul, add-one, arith}
 use Rattle.encoding.specs.Chains.{truth_at}
 use Rattle.encoding.specs.Clauses.{numbered, truth, truth_of}
 use Rattle.encoding.specs.Ranges.{each, total}

@@ -1,15 +1,13 @@
 -- A table's template unrolls to the table's clause list, with labels or without.
 -- Assumes nothing.
-use Rattle.std.proofs.Common.{◌≡◌, ℕ, zero, suc, ◌+◌, ◌*◌, List, [], ◌∷◌, ◌++◌, map, sym, refl, ap, ◌∙◌, ap₂, append_assoc, append-nil}
-use Rattle.encoding.specs.Clauses.{Literal, agenda, formula, goal, kept, numbered, start, step, truth, truth_of}
-use Rattle.encoding.specs.Labels.{Labelled, label, labelled, labelled_step}
+use Rattle.std.proofs.Common.{◌≡◌, ℕ, zero, suc, ◌*◌, ◌++◌, sym, ap, ◌∙◌, ap₂, append_assoc, append-nil}
+use Rattle.encoding.specs.Clauses.{agenda, formula, goal, kept, numbered, start, step, truth}
+use Rattle.encoding.specs.Labels.{label, labelled, labelled_step}
 use Rattle.encoding.specs.Ranges.{each}
 use Rattle.encoding.specs.Tables.{Table}
-use Rattle.encoding.specs.Variables.{step_size}
-use Rattle.encoding.proofs.Emitting.{formula-is, numbered-append, numbered-each}
+use Rattle.encoding.proofs.Emitting.{formula-is, numbered-append}
 use Rattle.encoding.proofs.Unrolling.{agenda-plus, goal-plus, kept-plus, truth-plus}
-use Rattle.formula.specs.declared.template.Family.{Family}
-use Rattle.formula.specs.declared.template.Family.TheVariants.{Start, Agenda, Kept, Truth, Goal}
+use Rattle.formula.specs.declared.template.Family.TheVariants.{Agenda, Kept, Truth, Goal}
 use Rattle.formula.specs.declared.template.Template.{Template}
 use Rattle.formula.specs.Templates.{Templated, said, shifted, tagged, tagged_step, tagged_steps, tagged_unrolled, unrolled, unrolled_step, unrolled_steps}
 

@@ -1,6 +1,6 @@
 -- A part of the first step's clauses, for the contracts of inner functions. No public contract cites it.
 -- Assumes nothing.
-use Rattle.std.specs.Prelude.{ℕ, Bool, cond, not, ◌&&◌, List, [], ◌∷◌, ◌==◌, nat_lt}
+use Rattle.std.specs.Prelude.{ℕ, cond, not, ◌&&◌, List, [], ◌∷◌, ◌==◌, nat_lt}
 use Rattle.encoding.specs.Clauses.{Literal, isnt}
 use Rattle.encoding.specs.Ranges.{only}
 use Rattle.encoding.specs.Tables.{Table, harms, owner}

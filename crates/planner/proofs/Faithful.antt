@@ -1,8 +1,7 @@
 -- After any history a new draft's table is the one that its granted calls name.
 -- Assumes nothing.
-use Rattle.std.proofs.Common.{◌≡◌, ℕ, Bool, true, false, cond, ◌&&◌, ◌||◌, eqb, List, [], ◌∷◌, is_ok, Some, None, Ok, Err, Option, Result, sym, refl, ap, ◌∙◌, subst, ap₂, arith}
+use Rattle.std.proofs.Common.{◌≡◌, ℕ, Bool, true, false, cond, ◌&&◌, ◌||◌, eqb, List, [], ◌∷◌, is_ok, Some, None, Ok, Err, Option, Result, sym, refl, ap, ◌∙◌, arith}
 use mathlib.Core.Path.{fun_ext}
-use Rattle.table.specs.declared.faults.NoteFault.{NoteFault}
 use Rattle.table.specs.declared.roles.Role.{Role}
 use Rattle.table.specs.Roles.{number_of, role_of}
 use Rattle.table.specs.Entries.{Entries, blank}

@@ -1,7 +1,7 @@
 -- Histories of a draft: calls of size and note in any order, granted or refused, and the table that the granted ones name.
 -- `named` is made from the granted calls alone; that a draft's table is always that one is the law `Faithful`.
 -- Assumes nothing.
-use Rattle.std.specs.Prelude.{◌≡◌, ℕ, Bool, true, false, ◌&&◌, ◌||◌, List, [], ◌∷◌, is_ok, Some, None, Option, ◌==◌}
+use Rattle.std.specs.Prelude.{◌≡◌, ℕ, Bool, true, false, ◌&&◌, ◌||◌, List, [], ◌∷◌, is_ok, ◌==◌}
 use Rattle.table.specs.declared.roles.Role.{Role}
 use Rattle.table.specs.Roles.{number_of}
 use Rattle.table.specs.Entries.{Entries, blank}

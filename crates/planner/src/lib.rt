@@ -2,6 +2,7 @@
 //!
 //! A draft and a job are types of their own, neither `Copy` nor `Clone`, and without a public field: a note on a job and a draft
 //! that is used after its seal do not compile.
+#![tactic(auto)]
 
 mod drafts;
 mod jobs;

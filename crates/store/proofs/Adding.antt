@@ -1,5 +1,5 @@
 -- Many clauses put one after another, for code over every kind of store: what was added so far, and one put more.
-use Rattle.std.proofs.Common.{◌≡◌, ℕ, ◌+◌, ◌-◌, ◌≤◌, List, [], ◌∷◌, ◌++◌, length, ℤ, sym, refl, ap, ◌∙◌, append_assoc, append-nil, arith}
+use Rattle.std.proofs.Common.{◌≡◌, ℕ, ◌+◌, ◌≤◌, List, [], ◌∷◌, ◌++◌, length, ℤ, sym, ap, ◌∙◌, append_assoc, append-nil, arith}
 use Rattle.store.specs.Clauses.{Prices, cost, price_of, Joined, Added}
 
 pub price-append : (p : Prices) (cs ds : List (List ℤ)) → price_of p (cs ++ ds) ≡ price_of p cs + price_of p ds

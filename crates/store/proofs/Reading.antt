@@ -8,7 +8,7 @@ use Rattle.std.proofs.ByRecursion.{All-append, All-push}
 use Rattle.std.proofs.lemmas.List.{take_at, drop_at, length-append, map-append}
 use Rattle.std.proofs.lemmas.List.Sums.{fold_push}
 use Rattle.store.specs.Clauses.{is_literal, all_literals}
-use Rattle.store.specs.Rendering.{width, justified, field, line_end, line_of}
+use Rattle.store.specs.Rendering.{width, field, line_end, line_of}
 use Rattle.store.specs.ReadBack.{Read, read_byte, read_column, signed_by, read_columns, read_line, lines}
 use Rattle.store.proofs.Meaning.{literals-parts}
 use Rattle.store.proofs.Lines.{length-field, length-line}

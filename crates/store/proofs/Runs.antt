@@ -1,12 +1,11 @@
 -- The number store: what its memory holds once a clause and its 0 are written.
-use Rattle.std.proofs.Common.{◌≡◌, ℕ, zero, suc, ◌+◌, ◌-◌, ◌<◌, ◌≤◌, true, List, [], ◌∷◌, ◌++◌, length, take, drop, set, ℤ, pos, negsuc, sym, refl, ap, ◌∙◌, append_assoc, append-nil, arith}
+use Rattle.std.proofs.Common.{◌≡◌, ℕ, zero, suc, ◌+◌, ◌≤◌, true, List, [], ◌∷◌, ◌++◌, length, take, drop, set, ℤ, pos, negsuc, sym, refl, ap, ◌∙◌, append_assoc, append-nil, arith}
 use lib.Seq.{paste}
 use borrow.Rule.Slice.PartMut.{put_mid}
-use Rattle.std.specs.List.{flat_map}
 use Rattle.std.proofs.lemmas.List.{take_all, take_at, drop_at, drop-drop, flat_map_more, set_split, length-append, length_push, length-drop, length-take-le}
 use Rattle.std.proofs.lemmas.List.Edits.{take-paste, drop-paste, length-paste}
 use Rattle.std.proofs.lemmas.Slice.{put_mid-paste}
-use Rattle.store.specs.Clauses.{is_literal, all_literals}
+use Rattle.store.specs.Clauses.{all_literals}
 use Rattle.store.specs.Numbers.{ended, numbers_of, runs, clauses_in}
 use Rattle.store.proofs.Meaning.{literals-parts}
 

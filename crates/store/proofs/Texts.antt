@@ -1,14 +1,10 @@
 -- The text store: what its memory holds at first, and once a clause's line and the header are written.
 use Rattle.std.proofs.lemmas.Bool.Decides.{nat_tests}
-use Rattle.std.proofs.Common.{◌≡◌, ℕ, zero, suc, ◌+◌, ◌-◌, ◌*◌, ◌^◌, ◌<◌, ◌≤◌, min, max, Bool, true, false, cond, ltb, List, [], ◌∷◌, ◌++◌, map, length, get_or, take, drop, ℤ, pos, negsuc, nat_abs, codes, sym, refl, ap, ◌∙◌, append_assoc, append-nil, arith, take-add}
-use borrow.Rule.Slice.PartMut.{put_mid}
-use lib.Seq.{paste}
+use Rattle.std.proofs.Common.{◌≡◌, ℕ, ◌+◌, ◌-◌, ◌*◌, ◌^◌, ◌<◌, ◌≤◌, min, max, true, false, cond, ltb, List, [], ◌∷◌, ◌++◌, map, length, take, drop, ℤ, pos, nat_abs, sym, ap, ◌∙◌, append_assoc, append-nil, arith}
 use Rattle.std.specs.List.{flat_map}
-use Rattle.std.proofs.lemmas.List.Edits.{length-paste}
-use Rattle.std.proofs.lemmas.List.{length-append, length_push, length-drop, length-take-le, take_at, drop_at, drop-append-le, drop-take, take-append-le, take-take, flat_map_more}
-use Rattle.std.proofs.lemmas.Slice.{put_mid-paste, take-put_mid, drop-put_mid, drop-append-drop}
+use Rattle.std.proofs.lemmas.List.{length-append, length_push, length-drop, length-take-le, take_at, drop_at, flat_map_more}
 use Rattle.store.specs.declared.text.TextStore.{TextStore}
-use Rattle.store.specs.Clauses.{is_literal, all_literals, is_clause, cost, greatest_variable}
+use Rattle.store.specs.Clauses.{all_literals, is_clause, cost, greatest_variable}
 use Rattle.store.specs.Rendering.{field, line_end, line_of, header_of, largest_of, largest_in, text_of, width, header_length, longest_text, shown_in, room_in, text_prices}
 use Rattle.store.specs.ReadBack.{read_line, lines, clauses_of}
 use Rattle.store.specs.Spelling.{rewritten}

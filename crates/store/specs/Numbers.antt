@@ -1,6 +1,6 @@
 -- What the number store's memory holds: each clause as its literals and a 0.
 -- `numbers_of` is the layout. `clauses_in` reads it back, so that a store's clauses are a function of its memory.
-use Rattle.std.specs.Prelude.{ℕ, zero, suc, ◌+◌, List, [], ◌∷◌, ◌++◌, ℤ, pos, negsuc}
+use Rattle.std.specs.Prelude.{zero, suc, ◌+◌, List, [], ◌∷◌, ◌++◌, ℤ, pos, negsuc}
 use Rattle.std.proofs.Common.{lit≤}
 use Rattle.std.specs.List.{flat_map}
 use Rattle.store.specs.Clauses.{Prices, prices_by, Priced}

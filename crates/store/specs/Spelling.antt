@@ -1,5 +1,5 @@
 -- What the inner functions write: for their contracts. No public contract cites it.
-use Rattle.std.specs.Prelude.{ℕ, ◌+◌, ◌*◌, ◌%◌, Bool, true, false, cond, List, ◌∷◌, ◌++◌, length, take, drop, ℤ, decimal, nat_lt}
+use Rattle.std.specs.Prelude.{ℕ, ◌+◌, ◌*◌, ◌%◌, Bool, cond, List, ◌∷◌, ◌++◌, length, take, drop, ℤ, decimal, nat_lt}
 use Rattle.store.specs.Rendering.{line_of, header_of, width, header_length}
 
 -- A number with its sign

@@ -1,4 +1,5 @@
 //! Prints a chain of implications from each kind of store, through one function over every kind, with the memory behind it.
+#![tactic(auto)]
 
 mod chain;
 #[cfg(test)]

@@ -1,14 +1,13 @@
 -- What every table keeps, it keeps over a granted size and a granted note.
 -- Assumes nothing.
-use Rattle.std.proofs.Common.{◌≡◌, ℕ, ◌<◌, ◌≤◌, Bool, true, false, cond, not, ◌&&◌, ◌||◌, eqb, leb, ◌⊎◌, Ok, Err, Result, sym, refl, ap, ◌∙◌, subst, inl, inr, arith}
+use Rattle.std.proofs.Common.{◌≡◌, ℕ, ◌<◌, ◌≤◌, Bool, true, false, cond, not, ◌&&◌, ◌||◌, eqb, leb, ◌⊎◌, Ok, Err, Result, sym, refl, ◌∙◌, subst, inl, inr, arith}
 use Rattle.std.proofs.lemmas.Bool.{eqb-true, eq-eqb, leb-true, and_parts, and_left, and_from, not-false}
 use Rattle.encoding.specs.Ranges.{some}
 use Rattle.table.specs.declared.faults.SizeFault.TheVariants.{OutOfLimits, AfterNote}
-use Rattle.table.specs.declared.faults.NoteFault.{NoteFault}
 use Rattle.table.specs.declared.faults.NoteFault.TheVariants.{ActionOutOfLimits, FactOutOfLimits, Repeated, Clashes}
 use Rattle.table.specs.declared.roles.Role.{Role}
-use Rattle.table.specs.declared.roles.Role.TheVariants.{Initial, Goal, StartNeeds, StartAdds, StartDeletes, EndNeeds, EndAdds, EndDeletes, Held}
-use Rattle.table.specs.Roles.{actionless, same_role, some_role}
+use Rattle.table.specs.declared.roles.Role.TheVariants.{StartAdds, StartDeletes, EndAdds, EndDeletes, Held}
+use Rattle.table.specs.Roles.{actionless, same_role}
 use Rattle.table.specs.Entries.{Entries, from, sized, taken, placed, implies, some_note, Sizes, Within, Never, Apart}
 use Rattle.table.specs.Calls.{size_answer, clashing, role_answer, granted}
 use Rattle.table.proofs.Numbers.{same-role, some_of, some-role, or_left, or_right}

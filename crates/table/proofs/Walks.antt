@@ -1,10 +1,9 @@
 -- Plans walked place by place, as the loops do.
 -- Assumes nothing.
-use Rattle.std.proofs.Common.{◌≡◌, ℕ, zero, suc, ◌+◌, ◌<◌, ◌≤◌, Bool, true, false, cond, ◌&&◌, List, [], ◌∷◌, length, get_or, drop, Some, None, Option, sym, refl, ap, ◌∙◌, ap₂, add-one, arith, drop_of_length-le, drop-cons}
+use Rattle.std.proofs.Common.{◌≡◌, ℕ, zero, suc, ◌+◌, ◌<◌, ◌≤◌, Bool, true, false, cond, ◌&&◌, [], ◌∷◌, length, get_or, drop, Some, None, Option, sym, ap, ◌∙◌, ap₂, add-one, arith, drop_of_length-le, drop-cons}
 use Rattle.refusal.specs.declared.causes.Obstacle.{Obstacle}
 use Rattle.encoding.specs.Tables.{Table, events}
 use Rattle.encoding.specs.Plans.{State, Plan, after, run}
-use Rattle.table.specs.declared.faults.PlanFault.{PlanFault}
 use Rattle.table.specs.declared.faults.PlanFault.TheVariants.{DoesNotRun}
 use Rattle.std.proofs.lemmas.Bool.{and_parts}
 use Rattle.table.specs.Entries.{from}

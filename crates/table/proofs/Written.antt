@@ -1,13 +1,13 @@
 -- The rows of a table with one note more.
 -- Assumes nothing.
-use Rattle.std.proofs.Common.{◌≡◌, ℕ, ◌<◌, Bool, true, false, ◌&&◌, ◌||◌, eqb, ltb, List, length, get_or, set, sym, refl, ap, ◌∙◌, subst, ap₂}
+use Rattle.std.proofs.Common.{◌≡◌, ℕ, ◌<◌, Bool, true, ◌&&◌, ◌||◌, eqb, ltb, List, length, get_or, set, sym, ap, ◌∙◌, subst, ap₂}
 use mathlib.Core.Path.{fun_ext}
 use Rattle.std.proofs.lemmas.Bool.{lt-ltb}
 use Rattle.table.specs.declared.notes.Notes.{Notes}
 use Rattle.table.specs.declared.roles.Role.{Role}
 use Rattle.table.specs.Roles.{number_of}
 use Rattle.table.specs.Memory.{noted, no_notes, noted_in}
-use Rattle.table.specs.Entries.{Entries, placed, some_note, Sizes, Within, Apart}
+use Rattle.table.specs.Entries.{Entries, some_note, Sizes, Within, Apart}
 use Rattle.table.specs.Calls.{with_note}
 use Rattle.table.proofs.Lists.{set_at}
 use Rattle.table.proofs.Numbers.{and-true}

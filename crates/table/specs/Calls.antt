@@ -1,6 +1,6 @@
 -- What size and note answer, and the entries after them.
 -- Assumes nothing.
-use Rattle.std.specs.Prelude.{ℕ, Bool, true, false, cond, not, ◌&&◌, ◌||◌, Some, None, Ok, Err, Option, Result, ◌==◌}
+use Rattle.std.specs.Prelude.{ℕ, Bool, false, cond, not, ◌&&◌, ◌||◌, Some, None, Ok, Err, Option, Result, ◌==◌}
 use Rattle.table.specs.declared.faults.SizeFault.{SizeFault}
 use Rattle.table.specs.declared.faults.SizeFault.TheVariants.{OutOfLimits, AfterNote}
 use Rattle.table.specs.declared.faults.NoteFault.{NoteFault}

@@ -1,6 +1,6 @@
 -- A table as it is written down: its sizes and a set of notes. What every table keeps, and what size and note answer and do.
 -- Assumes nothing.
-use Rattle.std.specs.Prelude.{◌≡◌, ℕ, ◌≤◌, Bool, true, false, cond, not, ◌&&◌, ◌||◌, ◌==◌, nat_le}
+use Rattle.std.specs.Prelude.{◌≡◌, ℕ, ◌≤◌, Bool, true, false, cond, ◌&&◌, ◌||◌, ◌==◌, nat_le}
 use Rattle.encoding.specs.Limits.{fact_limit, action_limit}
 use Rattle.encoding.specs.Ranges.{some}
 use Rattle.table.specs.declared.roles.Role.{Role}

@@ -1,6 +1,6 @@
 -- What the entries of a table mean.
 -- Assumes nothing.
-use Rattle.std.specs.Prelude.{Bool, cond}
+use Rattle.std.specs.Prelude.{cond}
 use Rattle.encoding.specs.Tables.{Table, starts, owner}
 use Rattle.table.specs.declared.roles.Role.TheVariants.{Initial, Goal, StartNeeds, StartAdds, StartDeletes, EndNeeds, EndAdds, EndDeletes, Held}
 use Rattle.table.specs.Entries.{Entries}

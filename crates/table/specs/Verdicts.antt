@@ -1,7 +1,7 @@
 -- Why a plan is not valid: the first cause in the order of the checks, with the lowest fact or action to blame.
 -- `plan_answer` says it of every list of pairs; `Decides` says that it grants exactly the valid plans.
 -- Assumes nothing.
-use Rattle.std.specs.Prelude.{◌≡◌, ℕ, zero, suc, Bool, true, false, cond, not, ◌&&◌, ◌||◌, List, [], ◌∷◌, Some, None, Ok, Err, Option, Result, ◌==◌, nat_lt}
+use Rattle.std.specs.Prelude.{◌≡◌, ℕ, zero, suc, Bool, true, cond, not, ◌&&◌, ◌||◌, [], ◌∷◌, Some, None, Ok, Err, Option, Result, ◌==◌, nat_lt}
 use Rattle.refusal.specs.declared.causes.Obstacle.{Obstacle}
 use Rattle.refusal.specs.declared.causes.Obstacle.TheVariants.{RequiredFactFalse, ActionAlreadyOpen, ActionNotOpen, HeldFactDeleted}
 use Rattle.refusal.specs.declared.causes.Unmet.{Unmet}

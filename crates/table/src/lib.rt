@@ -2,6 +2,7 @@
 //!
 //! This is the inside of drafts and jobs. Every function that another crate can call is total: of numbers out of limits it refuses,
 //! or says `false` or nothing. No heap is used. `specs/Entries.antt` says what a table is, `specs/Meaning.antt` what it means.
+#![tactic(auto)]
 
 mod events;
 mod faults;

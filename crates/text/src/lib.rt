@@ -4,6 +4,7 @@
 //! lawful text is, by its rendering, and `specs/Outcomes.antt` what reading comes to; `specs/Faults.antt` gives each fault its refusal.
 //! Readers of digits, tags, numbers and lines return where no lawful text continues; the line and the column are worked out once, at the
 //! end. No heap is used.
+#![tactic(auto)]
 
 mod cursor;
 mod faults;

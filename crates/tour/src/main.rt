@@ -1,4 +1,5 @@
 //! A tour of the library: two small cells are described call by call, sealed, and their plans run event by event.
+#![tactic(auto)]
 
 mod cells;
 mod showing;

@@ -3,6 +3,7 @@
 //! The tray is a struct over a lent slice. It allocates nothing and never grows: when the slice is full, it refuses. Places count
 //! from 1 throughout. What it holds is the list `items` of `specs/Trays.antt`, and every contract speaks of that list, of the whole
 //! memory, and of who lent it.
+#![tactic(auto)]
 
 mod equality;
 mod fault;

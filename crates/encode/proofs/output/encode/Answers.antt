@@ -1,11 +1,10 @@
 -- The text in the store is the rendering of the clauses that were put, and a refusal is printed as its line.
 -- Assumes nothing.
-use Rattle.std.proofs.Common.{◌≡◌, ℕ, ◌-◌, min, length, take, replicate, Ok, Err, sym, refl, ap, ◌∙◌, subst, rules}
+use Rattle.std.proofs.Common.{ℕ, ◌-◌, min, take, replicate, Ok, Err, sym, refl, ap, ◌∙◌, subst}
 use lib.ListN.{length-replicate}
 use Rattle.store.proofs.Memory.{text-left}
 use Rattle.report.specs.declared.outputs.Output.TheVariants.{Granted}
 use Rattle.std.proofs.lemmas.Result.{IfOk-weaker}
-use Rattle.refusal.specs.Codes.{code_of}
 use Rattle.report.specs.Outputs.{Refuses}
 use Rattle.store.specs.Rendering.{header_length, longest_text}
 use Rattle.store.specs.ReadBack.{clauses_of}

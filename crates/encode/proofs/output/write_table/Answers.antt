@@ -1,9 +1,9 @@
 -- Each way to end is one of the cases.
 -- Assumes nothing.
-use Rattle.std.proofs.Common.{◌≡◌, Ok, Err, sym, refl, ap, ◌∙◌, subst}
+use Rattle.std.proofs.Common.{Ok, Err, sym, refl, ap, ◌∙◌, subst}
 use Rattle.std.proofs.lemmas.Result.{err_from_is_err_and}
 use Rattle.encoder.specs.Emission.{Emitted, emit_answer}
-use Rattle.planner.specs.Contents.{in_draft, in_job, meant_by}
+use Rattle.planner.specs.Contents.{in_draft}
 use Rattle.table.specs.Meaning.{meaning}
 use Rattle.encode.specs.Printed.{not_read, not_put, put}
 use Rattle.encode.proofs.Reading.{read_of}

@@ -1,9 +1,9 @@
 -- The counts of the template are those of the list, and so is the price.
 -- Assumes nothing.
-use Rattle.std.proofs.Common.{◌≡◌, ◌<◌, ◌≤◌, sym, refl, ap, ◌∙◌, subst, arith}
+use Rattle.std.proofs.Common.{◌≤◌, refl, ◌∙◌, subst, arith}
 use Rattle.encoding.specs.Clauses.{signed_formula}
 use Rattle.encoding.specs.Theorem.{Small}
-use Rattle.store.specs.Clauses.{Added, price_of}
+use Rattle.store.specs.Clauses.{price_of}
 use Rattle.table.specs.Model.{meant}
 use Rattle.encoder.specs.Puts.{Adds}
 use Rattle.encoder.proofs.Whole.{answer-count, answer-dear, few, length-is, limits, list-is, ones-are, price-is, size_small, threes-are, twos-are}

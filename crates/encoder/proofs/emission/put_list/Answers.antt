@@ -1,10 +1,10 @@
 -- One step more at each turn; the start's clauses before them and the goal's after them.
 -- Assumes nothing.
-use Rattle.std.proofs.Common.{◌≡◌, ◌*◌, sym, ap, ◌∙◌, subst, arith}
+use Rattle.std.proofs.Common.{◌≡◌, ◌*◌, sym, ap, subst, arith}
 use Rattle.std.specs.List.{AllByRecursion as All}
 use Rattle.encoding.proofs.Ranges.{all_left, all_right}
-use Rattle.formula.specs.declared.template.Family.TheVariants.{Start, Goal}
-use Rattle.formula.specs.Templates.{said, shifted, unrolled_step, unrolled_steps}
+use Rattle.formula.specs.declared.template.Family.TheVariants.{Goal}
+use Rattle.formula.specs.Templates.{unrolled_steps}
 use Rattle.encoder.specs.Puts.{Adds, InLimits, signs}
 use Rattle.encoder.proofs.Adding.{adds-more, adds_none, adds-two}
 use Rattle.encoder.proofs.Steps.{alone-more, alone-none, family-is, signs-whole, start_is, start-limits, step-limits, steps_alone}

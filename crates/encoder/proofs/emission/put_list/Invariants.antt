@@ -1,6 +1,5 @@
 -- The start's clauses and those of the steps passed are put.
 -- Assumes nothing.
-use Rattle.std.proofs.Common.{◌≡◌}
 use Rattle.encoder.proofs.Steps.{steps_alone}
 use Rattle.encoder.specs.Puts.{Adds, signs}
 use Rattle.encoder.proofs.emission.put_list.Given as goal

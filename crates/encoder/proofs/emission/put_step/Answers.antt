@@ -1,9 +1,8 @@
 -- The three families, one after another.
 -- Assumes nothing.
-use Rattle.std.proofs.Common.{◌≡◌, ◌*◌, ◌++◌, map, sym, ap, ◌∙◌, subst, ap₂}
+use Rattle.std.proofs.Common.{◌*◌, ◌++◌, sym, ap, ◌∙◌, subst, ap₂}
 use Rattle.std.specs.List.{AllByRecursion as All}
 use Rattle.formula.specs.declared.template.Family.TheVariants.{Agenda, Kept, Truth}
-use Rattle.formula.specs.Listings.{lits}
 use Rattle.formula.specs.Templates.{said, shifted}
 use Rattle.encoder.specs.Puts.{InLimits, signs}
 use Rattle.encoder.proofs.Adding.{adds-more, adds-two}

@@ -1,6 +1,6 @@
 -- One clause more at each turn.
 -- Assumes nothing.
-use Rattle.std.proofs.Common.{◌≡◌, subst}
+use Rattle.std.proofs.Common.{subst}
 use Rattle.formula.specs.declared.clauses.Clause.TheVariants.{One}
 use Rattle.formula.specs.declared.clauses.Literal.TheVariants.{Is}
 use Rattle.encoder.specs.Puts.{Adds}

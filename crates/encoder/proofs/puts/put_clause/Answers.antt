@@ -1,6 +1,6 @@
 -- The numbers of a clause within the limits are literals.
 -- Assumes nothing.
-use Rattle.std.proofs.Common.{◌≡◌, ◌+◌, true, ap, ◌∙◌, w32, SFits, to_z, of_z, rules}
+use Rattle.std.proofs.Common.{◌+◌, ap, ◌∙◌, w32, SFits, to_z, of_z, rules}
 use Rattle.std.proofs.lemmas.Int.{to_z-of_z}
 use Rattle.encoding.specs.Clauses.{rename}
 use Rattle.formula.specs.Listings.{lit}

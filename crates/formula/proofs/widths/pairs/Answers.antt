@@ -1,10 +1,9 @@
 -- One width more.
 -- Assumes nothing.
-use Rattle.std.proofs.Common.{◌≡◌, ℕ, ◌+◌, ◌*◌, ◌≤◌, sym, refl, ap, ◌∙◌, ap₂, arith}
-use Rattle.encoding.specs.Ranges.{total, count}
-use Rattle.encoding.specs.Tables.{relevant, events}
+use Rattle.std.proofs.Common.{◌≡◌, ◌+◌, sym, refl, ap, ◌∙◌, ap₂, arith}
+use Rattle.encoding.specs.Ranges.{total}
 use Rattle.encoding.specs.Variables.{width, pairs}
-use Rattle.encoding.proofs.Ranges.{count-le, total-more}
+use Rattle.encoding.proofs.Ranges.{total-more}
 use Rattle.table.specs.Model.{meant}
 use Rattle.formula.proofs.Bounds.{width-le}
 use Rattle.formula.proofs.widths.pairs.Goals as goal

@@ -1,6 +1,6 @@
 -- One event more is counted if it is relevant.
 -- Assumes nothing.
-use Rattle.std.proofs.Common.{◌≡◌, ℕ, ◌+◌, ◌*◌, true, false, cond, sym, refl, ap, ◌∙◌, arith}
+use Rattle.std.proofs.Common.{◌≡◌, ℕ, ◌+◌, ◌*◌, cond, sym, refl, ap, ◌∙◌, arith}
 use Rattle.encoding.specs.Ranges.{count}
 use Rattle.encoding.specs.Tables.{relevant}
 use Rattle.encoding.specs.Variables.{width}

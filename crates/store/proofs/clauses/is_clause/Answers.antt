@@ -1,5 +1,5 @@
 -- Each turn looks at one literal more.
-use Rattle.std.proofs.Common.{◌≡◌, true, false, get_or, pos, sym, ◌∙◌, arith, w32, SFits, rules}
+use Rattle.std.proofs.Common.{true, false, get_or, pos, sym, ◌∙◌, arith, w32, SFits, rules}
 use Rattle.store.specs.Clauses.{all_literals}
 use Rattle.std.proofs.lemmas.List.{at_drop_all}
 use Rattle.store.proofs.Meaning.{literals-step, clause-is}

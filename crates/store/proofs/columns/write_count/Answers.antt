@@ -1,5 +1,5 @@
 -- A count has at most seven digits.
-use Rattle.std.proofs.Common.{◌≡◌, ◌≤◌, length, decimal, sym, ap, ◌∙◌, arith, lit≤, rules}
+use Rattle.std.proofs.Common.{◌≤◌, length, decimal, ap, ◌∙◌, arith}
 use Rattle.std.proofs.lemmas.Fmt.{length-decimal-le}
 use Rattle.store.specs.Rendering.{justified, field, width}
 use Rattle.store.proofs.columns.write_count.Goals as goal

@@ -1,10 +1,10 @@
 -- Four parts, each written after those in front of it.
-use Rattle.std.proofs.Common.{◌≡◌, ℕ, ◌+◌, ◌<◌, List, [], ◌∷◌, ◌++◌, length, pos, codes, sym, refl, ap, ◌∙◌, append_assoc, arith, rules}
+use Rattle.std.proofs.Common.{◌≡◌, ℕ, ◌<◌, List, [], ◌∷◌, ◌++◌, length, pos, codes, sym, refl, ◌∙◌, append_assoc, arith, rules}
 use borrow.Rule.Slice.PartMut.{put_mid}
 use lib.Seq.{paste}
 use Rattle.std.proofs.lemmas.List.{length-append, length_push}
 use Rattle.std.proofs.lemmas.List.Edits.{paste_none}
-use Rattle.store.specs.Rendering.{field, header_of, width}
+use Rattle.store.specs.Rendering.{field, width}
 use Rattle.store.proofs.Lines.{length-count, paste-part, paste-byte, paste-whole}
 use Rattle.store.proofs.columns.write_header.Goals as goal
 

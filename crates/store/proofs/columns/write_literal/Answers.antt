@@ -1,5 +1,5 @@
 -- A literal has at most five digits and a sign.
-use Rattle.std.proofs.Common.{◌≡◌, ◌≤◌, length, pos, sym, ap, ◌∙◌, arith, w32, to_z, of_z}
+use Rattle.std.proofs.Common.{◌≡◌, length, pos, ap, ◌∙◌, arith, w32, to_z, of_z}
 use lib.Signed.{lt_z}
 use Rattle.std.specs.Fmt.{signed_decimal}
 use Rattle.std.proofs.lemmas.Int.{to_z-of_z}

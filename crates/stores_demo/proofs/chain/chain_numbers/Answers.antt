@@ -1,5 +1,5 @@
 -- The store that is let go says what the numbers are.
-use Rattle.std.proofs.Common.{◌≡◌, ◌++◌, length, take, sym, ap, ◌∙◌, arith, rules}
+use Rattle.std.proofs.Common.{◌≡◌, ◌++◌, length, sym, ap, ◌∙◌, arith, rules}
 use Rattle.store.specs.Growth.{over}
 use Rattle.store.specs.Numbers.{numbers_of}
 use Rattle.store.proofs.Memory.{numbers-left}

@@ -1,10 +1,10 @@
 -- A put that the price covers is not refused; each turn adds one clause and composes the growth.
-use Rattle.std.proofs.Common.{◌≡◌, ℕ, ◌+◌, ◌-◌, ◌*◌, ◌<◌, ◌≤◌, List, [], ◌∷◌, ◌++◌, ℤ, pos, sym, refl, ap, ◌∙◌, subst, arith}
+use Rattle.std.proofs.Common.{◌≡◌, ◌+◌, ◌*◌, ◌≤◌, [], ◌∷◌, pos, refl, ap, subst, arith}
 use Rattle.store.specs.Clauses.{Added}
 use Rattle.store.proofs.Meaning.{no-refusal}
 use Rattle.store.proofs.Adding.{added-one, added-put, added_more}
 use Rattle.stores_demo.specs.Chain.{implications, chain}
-use Rattle.stores_demo.proofs.Steps.{written, written_is, written-lawful, implications-more, implications-price, chain-price, chain_length, covered}
+use Rattle.stores_demo.proofs.Steps.{written, written-lawful, implications-more, implications-price, chain-price, chain_length, covered}
 use Rattle.stores_demo.proofs.chain.put_chain.Goals as goal
 
 pub returns-then-free-price : goal.returns-then-free-price

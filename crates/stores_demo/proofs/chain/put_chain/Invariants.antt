@@ -1,5 +1,4 @@
 -- The clauses so far are added, and the store has grown.
-use Rattle.std.proofs.Common.{◌≡◌, length}
 use Rattle.store.specs.Clauses.{Added}
 use Rattle.stores_demo.specs.Chain.{implications}
 use Rattle.stores_demo.proofs.chain.put_chain.Given as goal

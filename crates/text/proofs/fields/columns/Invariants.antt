@@ -1,5 +1,5 @@
 -- What is left of the columns still comes to the same.
-use Rattle.std.proofs.Common.{◌≡◌, ℕ, ◌-◌, ◌^◌, ◌<◌, drop}
+use Rattle.std.proofs.Common.{◌≡◌, ◌-◌, drop}
 use Rattle.text.specs.Columns.{read_on, Within}
 use Rattle.text.specs.declared.fields.Column.TheVariants.{Blanks}
 use Rattle.text.proofs.fields.columns.Given as goal

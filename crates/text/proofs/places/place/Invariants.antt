@@ -1,5 +1,5 @@
 -- What is left to walk still ends at the same place.
-use Rattle.std.proofs.Common.{◌≡◌, ℕ, ◌+◌, ◌≤◌, take, drop}
+use Rattle.std.proofs.Common.{◌≡◌, ◌+◌, ◌≤◌, drop}
 use Rattle.text.specs.Places.{walk, place_of}
 use Rattle.text.proofs.places.place.Given as goal
 

@@ -1,5 +1,5 @@
 -- The loop stops at the first element that equals the value, or passes all of them.
-use Rattle.std.proofs.Common.{◌≡◌, ℕ, sym, ap, ◌∙◌, arith}
+use Rattle.std.proofs.Common.{sym, ap, ◌∙◌, arith}
 use Rattle.std.proofs.lemmas.List.{get_or_read}
 use Rattle.tray.proofs.Places.{first-none, first_some, found}
 use Rattle.tray.proofs.rows.first_equal.Goals as goal

@@ -1,6 +1,6 @@
 -- The sum is small.
 -- Assumes nothing.
-use Rattle.std.proofs.Common.{◌≡◌, ◌≤◌, get_or, ap, arith}
+use Rattle.std.proofs.Common.{◌≤◌, get_or, ap, arith}
 use Rattle.encoder.proofs.Counting.{once-small, steps-small}
 use Rattle.encoder.proofs.counts.Counts.price.Goals as goal
 

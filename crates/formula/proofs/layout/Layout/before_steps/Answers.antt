@@ -1,6 +1,6 @@
 -- The sum is small, and it is the variable's number.
 -- Assumes nothing.
-use Rattle.std.proofs.Common.{◌≡◌, sym, ◌∙◌, arith}
+use Rattle.std.proofs.Common.{arith}
 use Rattle.formula.specs.Layouts.{table_in}
 use Rattle.formula.proofs.Numbers.{first-variables}
 use Rattle.formula.proofs.layout.Layout.before_steps.Goals as goal

@@ -1,6 +1,6 @@
 -- The sum is small, and it is the variable's number.
 -- Assumes nothing.
-use Rattle.std.proofs.Common.{◌≡◌, sym, ◌∙◌, arith}
+use Rattle.std.proofs.Common.{arith}
 use Rattle.encoding.specs.Variables.{number}
 use Rattle.formula.proofs.layout.Layout.open_after.Goals as goal
 

@@ -1,7 +1,7 @@
 -- One event more.
 -- Assumes nothing.
 use Rattle.std.proofs.Common.{◌≡◌, ℕ, ◌+◌, ◌*◌, cond, ◌++◌, sym, refl, ap, ◌∙◌, ap₂, arith, rules}
-use Rattle.encoding.specs.Chains.{turn_at, next_at}
+use Rattle.encoding.specs.Chains.{turn_at}
 use Rattle.encoding.specs.Clauses.{same}
 use Rattle.encoding.specs.Ranges.{count, each}
 use Rattle.encoding.specs.Tables.{relevant}

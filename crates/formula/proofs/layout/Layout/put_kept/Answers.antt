@@ -1,6 +1,6 @@
 -- One event more.
 -- Assumes nothing.
-use Rattle.std.proofs.Common.{◌≡◌, ℕ, ◌+◌, ◌*◌, cond, [], ◌∷◌, sym, refl, ap, ◌∙◌, arith}
+use Rattle.std.proofs.Common.{◌≡◌, ◌*◌, refl, arith}
 use Rattle.formula.specs.Layouts.{table_in}
 use Rattle.formula.proofs.Joining.{joined-none, joined-next, joined-range}
 use Rattle.formula.proofs.Ranges.{kept_from}

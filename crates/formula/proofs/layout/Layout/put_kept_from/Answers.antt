@@ -1,6 +1,6 @@
 -- One action more.
 -- Assumes nothing.
-use Rattle.std.proofs.Common.{◌≡◌, ℕ, ◌+◌, ◌*◌, cond, [], ◌∷◌, sym, refl, ap, ◌∙◌, arith}
+use Rattle.std.proofs.Common.{◌≡◌, refl, arith}
 use Rattle.formula.specs.Layouts.{table_in}
 use Rattle.formula.proofs.Joining.{joined-none, joined-next, joined-range}
 use Rattle.formula.specs.Parts.{kept_at}

@@ -1,6 +1,6 @@
 -- One fact more.
 -- Assumes nothing.
-use Rattle.std.proofs.Common.{◌≡◌, ℕ, ◌+◌, ◌*◌, sym, refl, ap, ◌∙◌, ap₂, arith, rules}
+use Rattle.std.proofs.Common.{◌≡◌, ◌+◌, sym, refl, ap, ◌∙◌, ap₂, arith, rules}
 use Rattle.encoding.specs.Chains.{truth_at}
 use Rattle.encoding.specs.Ranges.{each, total}
 use Rattle.encoding.specs.Variables.{variables, width}

@@ -1,7 +1,7 @@
 -- A relevant event's clauses, or none.
 -- Assumes nothing.
-use Rattle.std.proofs.Common.{◌≡◌, ℕ, ◌+◌, Bool, true, false, cond, sym, ap, ◌∙◌, subst, arith}
-use Rattle.encoding.specs.Chains.{next_at, turn_at}
+use Rattle.std.proofs.Common.{◌≡◌, ◌+◌, true, cond, sym, ap, ◌∙◌, subst}
+use Rattle.encoding.specs.Chains.{next_at}
 use Rattle.encoding.specs.Clauses.{turn}
 use Rattle.encoding.specs.Ranges.{only}
 use Rattle.encoding.specs.Tables.{events, relevant, requires}

@@ -1,6 +1,6 @@
 -- The clause stands after the last.
 -- Assumes nothing.
-use Rattle.std.proofs.Common.{◌≡◌, ◌<◌, [], ◌∷◌, length, refl, ap, ◌∙◌, rules}
+use Rattle.std.proofs.Common.{◌<◌, length, refl, rules}
 use Rattle.formula.specs.Listings.{lits}
 use Rattle.formula.proofs.Joining.{map_push}
 use Rattle.formula.proofs.listing.Listing.push.Goals as goal

@@ -1,7 +1,7 @@
 -- Each listing has room for its family.
 -- Assumes nothing.
 use Rattle.std.proofs.Common.{◌≡◌, ℕ, ◌≤◌, List, length, ap, ◌∙◌, subst}
-use Rattle.encoding.specs.Clauses.{Clause, Literal, agenda, goal as goal', kept, numbered, start, truth}
+use Rattle.encoding.specs.Clauses.{Clause, agenda, goal as goal', kept, numbered, start, truth}
 use Rattle.encoding.specs.Tables.{Table}
 use Rattle.encoding.specs.Theorem.{Small}
 use Rattle.encoding.specs.Variables.{step_size}

@@ -1,8 +1,8 @@
 -- The store after a put: its memory from the write of the clause, and from that the clauses read back.
-use Rattle.std.proofs.Common.{◌≡◌, ℕ, ◌+◌, ◌-◌, ◌<◌, ◌≤◌, [], ◌∷◌, ◌++◌, length, take, drop, sym, ap, ◌∙◌, arith, rules}
+use Rattle.std.proofs.Common.{◌+◌, ◌<◌, ◌≤◌, [], ◌∷◌, ◌++◌, length, take, drop, sym, ap, ◌∙◌, arith, rules}
 use Rattle.store.specs.Numbers.{clauses_in}
 use Rattle.store.proofs.Meaning.{clause-parts, cost-by}
-use Rattle.store.proofs.Runs.{Wrote, count_low, wrote}
+use Rattle.store.proofs.Runs.{count_low, wrote}
 use Rattle.store.proofs.numbers.NumberStoreClauseStore.put.Goals as goal
 
 pub overflow_add-self-2 : goal.overflow_add-self-2

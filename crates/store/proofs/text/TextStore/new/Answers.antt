@@ -1,8 +1,8 @@
 -- Where the header has room, it is written and nothing else is.
-use Rattle.std.proofs.Common.{◌≡◌, ℕ, ◌-◌, ◌≤◌, min, false, cond, ltb, [], ◌++◌, length, drop, sym, refl, ap, ◌∙◌, append-nil, arith}
+use Rattle.std.proofs.Common.{◌≡◌, ◌≤◌, false, cond, ltb, [], ◌++◌, length, drop, sym, refl, ap, ◌∙◌, append-nil, arith}
 use Rattle.std.proofs.lemmas.Bool.Decides.{nat_tests}
 use Rattle.store.specs.Growth.{over}
-use Rattle.store.specs.Rendering.{header_of, largest_in, width, header_length, longest_text, room_in}
+use Rattle.store.specs.Rendering.{header_of, largest_in, width, header_length, room_in}
 use Rattle.store.proofs.Texts.{head-length, shown-is, room-is, head-all, head-empty, head-shown}
 use Rattle.store.proofs.text.TextStore.new.Goals as goal
 

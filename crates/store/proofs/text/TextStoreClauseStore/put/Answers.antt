@@ -1,9 +1,9 @@
 -- The store after a put: its memory from the write of the line and the header, and from that the clauses read back.
-use Rattle.std.proofs.Common.{◌≡◌, ℕ, ◌+◌, ◌*◌, ◌≤◌, max, [], ◌∷◌, ◌++◌, length, take, drop, sym, ap, ◌∙◌, arith, rules}
+use Rattle.std.proofs.Common.{◌≡◌, ◌+◌, ◌*◌, ◌≤◌, max, [], ◌∷◌, ◌++◌, length, take, drop, sym, ap, ◌∙◌, arith, rules}
 use Rattle.store.specs.Rendering.{width, room_in}
 use Rattle.store.specs.ReadBack.{clauses_of}
 use Rattle.store.proofs.Meaning.{clause-parts, cost-by}
-use Rattle.store.proofs.Texts.{Wrote, few-clauses, put-requires, put-wrote, put-within, put-units}
+use Rattle.store.proofs.Texts.{few-clauses, put-requires, put-wrote, put-within, put-units}
 use Rattle.store.proofs.text.TextStoreClauseStore.put.Goals as goal
 
 pub overflow_add-count : goal.overflow_add-count

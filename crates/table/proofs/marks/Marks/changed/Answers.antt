@@ -1,6 +1,6 @@
 -- Past the places nothing is marked.
 -- Assumes nothing.
-use Rattle.std.proofs.Common.{◌≡◌, ℕ, ◌<◌, Bool, false, not, ◌&&◌, ◌||◌, length, get_or, subst, arith, rules}
+use Rattle.std.proofs.Common.{◌≡◌, false, length, arith, rules}
 use lib.ListN.{length-replicate}
 use Rattle.table.proofs.Lists.{everywhere}
 use Rattle.table.proofs.marks.Marks.changed.Goals as goal

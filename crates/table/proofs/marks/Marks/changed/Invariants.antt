@@ -1,6 +1,6 @@
 -- The places passed hold what the change gives.
 -- Assumes nothing.
-use Rattle.std.proofs.Common.{◌≡◌, ℕ, ◌<◌, Bool, false, not, ◌&&◌, ◌||◌, length, get_or}
+use Rattle.std.proofs.Common.{◌≡◌, ℕ, ◌<◌, false, not, ◌&&◌, ◌||◌, length, get_or}
 use Rattle.table.proofs.marks.Marks.changed.Given as goal
 
 abbrev pub invariant-loop-i : goal.invariant-loop-i

@@ -1,6 +1,6 @@
 -- An action beyond the places has no notes.
 -- Assumes nothing.
-use Rattle.std.proofs.Common.{◌≡◌, sym, ap, ◌∙◌}
+use Rattle.std.proofs.Common.{sym, ap, ◌∙◌}
 use Rattle.table.specs.declared.marks.Marks.{Marks}
 use Rattle.table.specs.Memory.{marked, no_marks}
 use Rattle.std.proofs.lemmas.List.{get_or_past}

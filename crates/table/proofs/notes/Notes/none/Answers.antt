@@ -1,6 +1,6 @@
 -- No note is among notes of no facts.
 -- Assumes nothing.
-use Rattle.std.proofs.Common.{◌≡◌, Bool, false, refl}
+use Rattle.std.proofs.Common.{◌≡◌, false, refl}
 use Rattle.table.specs.declared.marks.Marks.{Marks}
 use Rattle.table.specs.Memory.{marked, no_marks}
 use Rattle.table.proofs.Lists.{all_same}

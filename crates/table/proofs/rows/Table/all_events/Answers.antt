@@ -1,6 +1,6 @@
 -- Each event of the table is passed, and one that is not decides.
 -- Assumes nothing.
-use Rattle.std.proofs.Common.{◌≡◌, true, false, sym, ◌∙◌}
+use Rattle.std.proofs.Common.{true, false, sym, ◌∙◌}
 use Rattle.table.specs.Model.{meant}
 use Rattle.table.proofs.Walks.{events-next, events-end}
 use Rattle.table.proofs.rows.Table.all_events.Goals as goal

@@ -1,6 +1,6 @@
 -- A table without notes.
 -- Assumes nothing.
-use Rattle.std.proofs.Common.{◌≡◌, ℕ, Bool, true, false, ◌&&◌, replicate, sym, refl, ap, subst, arith}
+use Rattle.std.proofs.Common.{◌≡◌, ℕ, Bool, false, ◌&&◌, replicate, sym, refl, ap, subst}
 use mathlib.Core.Path.{fun_ext}
 use Rattle.encoding.specs.Ranges.{some}
 use Rattle.table.specs.declared.notes.Notes.{Notes}
@@ -8,7 +8,7 @@ use Rattle.table.specs.declared.roles.Role.{Role}
 use Rattle.table.specs.declared.roles.Role.TheVariants.{StartAdds, StartDeletes, EndAdds, EndDeletes, Held}
 use Rattle.table.specs.Roles.{number_of}
 use Rattle.table.specs.Memory.{noted, no_notes, noted_in}
-use Rattle.table.specs.Entries.{Entries, implies, placed, some_note}
+use Rattle.table.specs.Entries.{implies, placed, some_note}
 use Rattle.table.proofs.Lists.{all_same}
 use Rattle.table.proofs.rows.Table.empty.Goals as goal
 

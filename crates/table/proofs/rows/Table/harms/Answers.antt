@@ -1,6 +1,6 @@
 -- A fact that is held and deleted is found, or there is none.
 -- Assumes nothing.
-use Rattle.std.proofs.Common.{◌≡◌, ℕ, ◌+◌, Bool, true, false, ◌&&◌, sym, ap, ◌∙◌, ap₂, arith}
+use Rattle.std.proofs.Common.{◌≡◌, ◌+◌, ◌&&◌, sym, ap, ◌∙◌, ap₂, arith}
 use Rattle.encoding.specs.Ranges.{some}
 use Rattle.encoding.specs.Tables.{harms}
 use Rattle.table.specs.Model.{meant}

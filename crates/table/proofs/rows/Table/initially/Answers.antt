@@ -1,8 +1,8 @@
 -- The row of the initial facts, and no action.
 -- Assumes nothing.
-use Rattle.std.proofs.Common.{◌≡◌, ℕ, Bool, ap₂}
+use Rattle.std.proofs.Common.{ℕ, Bool, ap₂}
 use mathlib.Core.Path.{fun_ext}
-use Rattle.encoding.specs.Plans.{State, initially}
+use Rattle.encoding.specs.Plans.{initially}
 use Rattle.table.proofs.rows.Table.initially.Goals as goal
 
 pub returns : goal.returns

@@ -1,6 +1,6 @@
 -- The lowest number that is required and false is found, or there is none.
 -- Assumes nothing.
-use Rattle.std.proofs.Common.{◌≡◌, ℕ, ◌+◌, Bool, not, ◌&&◌, sym, ap, ◌∙◌, ap₂, arith}
+use Rattle.std.proofs.Common.{◌≡◌, not, ◌&&◌, sym, ap, ◌∙◌, ap₂, arith}
 use Rattle.table.specs.Model.{meant}
 use Rattle.table.specs.States.{state_of}
 use Rattle.table.specs.Verdicts.{lowest, lacks}

@@ -1,7 +1,6 @@
 -- The lowest number that is an open action is found, or there is none.
 -- Assumes nothing.
-use Rattle.std.proofs.Common.{◌≡◌, ℕ, ◌+◌, sym, ap, ◌∙◌, ap₂, arith}
-use Rattle.table.specs.Model.{meant}
+use Rattle.std.proofs.Common.{◌≡◌, sym, ap, ◌∙◌, arith}
 use Rattle.table.specs.States.{state_of}
 use Rattle.table.specs.Verdicts.{lowest}
 use Rattle.table.proofs.Lowest.{lowest-none, lowest-more, lowest-found}

@@ -1,7 +1,6 @@
 -- None of the numbers passed is an open action.
 -- Assumes nothing.
 use Rattle.std.proofs.Common.{◌≡◌, None}
-use Rattle.table.specs.Model.{meant}
 use Rattle.table.specs.States.{state_of}
 use Rattle.table.specs.Verdicts.{lowest}
 use Rattle.table.proofs.rows.Table.left_open.Given as goal

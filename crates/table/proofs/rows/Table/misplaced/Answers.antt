@@ -1,6 +1,6 @@
 -- Each pair in order is passed, and the first that is not is the answer.
 -- Assumes nothing.
-use Rattle.std.proofs.Common.{◌≡◌, ℕ, ◌+◌, sym, ◌∙◌}
+use Rattle.std.proofs.Common.{◌+◌, sym, ◌∙◌}
 use Rattle.table.specs.Model.{meant}
 use Rattle.table.proofs.Walks.{misplaced-next, misplaced-here, misplaced-end}
 use Rattle.table.proofs.rows.Table.misplaced.Goals as goal

@@ -1,9 +1,9 @@
 -- A granted note is written, and the table keeps what every table keeps.
 -- Assumes nothing.
-use Rattle.std.proofs.Common.{◌≡◌, ◌<◌, length, get_or, Ok, Err, Option, sym, ap, ◌∙◌, rules}
+use Rattle.std.proofs.Common.{◌<◌, length, get_or, Option, sym, ap, ◌∙◌, rules}
 use Rattle.table.specs.declared.roles.Role.{Role}
 use Rattle.table.specs.Memory.{no_notes}
-use Rattle.table.specs.Calls.{granted, answer_by, written_by}
+use Rattle.table.specs.Calls.{answer_by, written_by}
 use Rattle.table.specs.Model.{entries_of}
 use Rattle.table.proofs.Numbers.{number_small}
 use Rattle.table.proofs.Keeps.{fit, in-places, done}

@@ -1,6 +1,6 @@
 -- Each event that runs is passed, and the first that does not is the answer.
 -- Assumes nothing.
-use Rattle.std.proofs.Common.{◌≡◌, ℕ, ◌+◌, sym, ap, ◌∙◌, ap₂}
+use Rattle.std.proofs.Common.{◌+◌, sym, ap, ◌∙◌}
 use Rattle.encoding.specs.Plans.{State, run}
 use Rattle.table.specs.Model.{meant}
 use Rattle.table.specs.States.{state_of}

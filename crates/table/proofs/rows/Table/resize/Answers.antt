@@ -1,6 +1,6 @@
 -- Without notes, all sizes in the limits will do.
 -- Assumes nothing.
-use Rattle.std.proofs.Common.{◌≡◌, sym, ◌∙◌}
+use Rattle.std.proofs.Common.{sym}
 use Rattle.table.specs.Memory.{noted_in}
 use Rattle.table.specs.Model.{entries_of}
 use Rattle.table.proofs.Keeps.{within-sized, size-fit}

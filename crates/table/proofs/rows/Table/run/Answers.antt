@@ -1,9 +1,9 @@
 -- The state after an event.
 -- Assumes nothing.
-use Rattle.std.proofs.Common.{◌≡◌, ℕ, ◌<◌, Bool, true, cond, not, ◌&&◌, ◌||◌, eqb, ltb, ap, ◌∙◌, ap₂, arith}
+use Rattle.std.proofs.Common.{◌≡◌, ℕ, ◌<◌, Bool, cond, not, ◌&&◌, ◌||◌, eqb, ltb, ap, ◌∙◌, ap₂, arith}
 use mathlib.Core.Path.{fun_ext}
 use Rattle.std.proofs.lemmas.Bool.{lt-ltb}
-use Rattle.encoding.specs.Plans.{State, after}
+use Rattle.encoding.specs.Plans.{after}
 use Rattle.encoding.specs.Tables.{owner, starts}
 use Rattle.table.specs.declared.marks.Marks.{Marks}
 use Rattle.table.specs.declared.roles.Role.{Role}

@@ -1,6 +1,6 @@
 -- Each event is run.
 -- Assumes nothing.
-use Rattle.std.proofs.Common.{◌≡◌, sym, ap, ◌∙◌, arith}
+use Rattle.std.proofs.Common.{ap, ◌∙◌, arith}
 use Rattle.encoding.specs.Plans.{State, run}
 use Rattle.table.specs.Model.{meant}
 use Rattle.table.specs.States.{state_of}

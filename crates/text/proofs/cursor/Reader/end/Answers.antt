@@ -1,6 +1,6 @@
 -- The line feed, or the place where it should stand.
 use Rattle.std.proofs.Common.{rules}
-use Rattle.text.proofs.Steps.{end-here, end_short, end-other}
+use Rattle.text.proofs.Steps.{end-here}
 use Rattle.text.proofs.cursor.Reader.end.Goals as goal
 
 pub returns : goal.returns

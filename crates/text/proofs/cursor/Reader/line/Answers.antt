@@ -1,7 +1,7 @@
 -- A tag, and then what follows it.
 use Rattle.std.proofs.lemmas.Result.{err_from_is_err_and}
 use Rattle.text.specs.declared.tags.Tag.TheVariants.{Sizes, Note, Close}
-use Rattle.text.proofs.Rows.{line-tag, line-tail, sizes-read, note-read, close-read}
+use Rattle.text.proofs.Rows.{line-tag, line-tail}
 use Rattle.text.proofs.cursor.Reader.line.Goals as goal
 
 pub returns-in_err-tag : goal.returns-in_err-tag

@@ -2,7 +2,7 @@
 use Rattle.std.proofs.Common.{rules}
 use Rattle.std.proofs.lemmas.Result.{err_from_is_err_and}
 use Rattle.table.specs.Roles.{actionless}
-use Rattle.text.proofs.Rows.{bare-read, bare-refused, full-read, full-refused}
+use Rattle.text.proofs.Rows.{bare-refused, full-refused}
 use Rattle.text.proofs.cursor.Reader.note.Goals as goal
 
 pub returns-in_err-action : goal.returns-in_err-action

@@ -1,8 +1,8 @@
 -- A number, and then the rest.
 use Rattle.std.proofs.lemmas.Result.{err_from_is_err_and}
 use Rattle.text.specs.Numbers.{Number}
-use Rattle.text.specs.Reading.{End, One, Two}
-use Rattle.text.proofs.Rows.{both_left, both_right, both_read, some_one, some-two}
+use Rattle.text.specs.Reading.{End}
+use Rattle.text.proofs.Rows.{both_left, both_right, both_read}
 use Rattle.text.proofs.Steps.{coded-number, some_end}
 use Rattle.text.proofs.cursor.Reader.one.Goals as goal
 

@@ -1,5 +1,5 @@
 -- Two bytes, or the place of the first bad one.
-use Rattle.std.proofs.Common.{refl, rules}
+use Rattle.std.proofs.Common.{refl}
 use Rattle.text.specs.Tags.{TagAt}
 use Rattle.text.proofs.Steps.{part-read, tag-ok, tag-err}
 use Rattle.text.proofs.cursor.Reader.tag.Goals as goal

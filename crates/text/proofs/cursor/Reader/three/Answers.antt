@@ -1,9 +1,9 @@
 -- A number, and then the rest.
 use Rattle.std.proofs.lemmas.Result.{err_from_is_err_and}
 use Rattle.text.specs.Numbers.{Number}
-use Rattle.text.specs.Reading.{End, One, Two}
-use Rattle.text.proofs.Rows.{both_left, both_right, both_read, some_one, some-two}
-use Rattle.text.proofs.Steps.{coded-number, some_end}
+use Rattle.text.specs.Reading.{Two}
+use Rattle.text.proofs.Rows.{both_left, both_right, both_read, some-two}
+use Rattle.text.proofs.Steps.{coded-number}
 use Rattle.text.proofs.cursor.Reader.three.Goals as goal
 
 pub returns-in_err-a : goal.returns-in_err-a
