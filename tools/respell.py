@@ -4,7 +4,8 @@
 The port to the toolchain named in README.md respelled the library's words; this script does the same for ours. It reads and
 rewrites crates/*/specs, crates/*/proofs, the clauses of crates/*/src and the must-fail and refused edits. A word such as
 `firstFalse`, alone or as a part of a name with dashes, becomes `first_false`. No function of src/ has such a name, so no code
-changes. A second run changes nothing.
+changes. The library's `AllByRecursion`, which the toolchain's script imports as `All`, gets its own name back, since `All` is another
+word of the library. A second run changes nothing.
 
   tools/respell.py           rewrites the files and says which words it turned
   tools/respell.py --check   only says which words it would turn, and which of them would fall together with another name
@@ -42,6 +43,10 @@ def files():
 
 
 def turned(path, text, count):
+    if "AllByRecursion as All" in text:
+        text = text.replace("AllByRecursion as All", "AllByRecursion")
+        text = re.sub(r"(--|//).*|(?<![\w'.-])All(?![\w'-])", lambda m: m[0] if m[1] else "AllByRecursion", text)
+        count["All", "AllByRecursion"] += 1
     def part(m):
         new = snake(m[0])
         count[m[0], new] += 1

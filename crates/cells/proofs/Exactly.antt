@@ -1,7 +1,7 @@
 -- A table whose clauses have just one satisfying assignment, from two computed tests: the assignment satisfies them, and a search forces it.
 -- Assumes nothing.
 use Rattle.std.proofs.Common.{◌≡◌, ℕ, Bool, true, false, cond, not, ◌&&◌, ◌↔◌, List, [], ◌∷◌, sym, refl, ◌∙◌, subst}
-use Rattle.std.specs.List.{AllByRecursion as All}
+use Rattle.std.specs.List.{AllByRecursion}
 use Rattle.std.proofs.lemmas.Bool.{and_parts, true≢false}
 use Rattle.encoding.specs.Ranges.{Each, each}
 use Rattle.encoding.specs.Tables.{Table}
@@ -27,7 +27,7 @@ hold-all σ (c ∷ cs) h = let p = and_parts (clause_holds σ c) (all_hold σ cs
 unfoldable pub literals : (ℕ → Bool) → ℕ → List (Literal ℕ)
 literals τ n = each n (λ i. cond (τ i) (is i) (isnt i) ∷ [])
 
-literals-say : (σ τ : ℕ → Bool) (n : ℕ) → All (λ l. literal_holds σ l ≡ true) (literals τ n) → Each n (λ i. σ i ≡ τ i)
+literals-say : (σ τ : ℕ → Bool) (n : ℕ) → AllByRecursion (λ l. literal_holds σ l ≡ true) (literals τ n) → Each n (λ i. σ i ≡ τ i)
 unfolding literals
 literals-say σ τ n h i u v = go (τ i) (all-each (λ l. literal_holds σ l ≡ true) n (λ i. cond (τ i) (is i) (isnt i) ∷ []) h i u v).0
   where

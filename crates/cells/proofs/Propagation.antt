@@ -1,7 +1,7 @@
 -- Unit propagation with case splits, as a computed test, and its soundness: what it finds holds under every assignment that satisfies the clauses.
 -- Assumes nothing.
 use Rattle.std.proofs.Common.{◌≡◌, ℕ, zero, suc, Bool, true, false, cond, not, ◌&&◌, ◌||◌, eqb, List, [], ◌∷◌, refl, ap, ◌∙◌, ⊎_elim}
-use Rattle.std.specs.List.{AllByRecursion as All}
+use Rattle.std.specs.List.{AllByRecursion}
 use Rattle.std.proofs.lemmas.Bool.{true≢false, false≢true, eqb-true, and_parts, or_cases}
 use Rattle.encoding.specs.Clauses.{Literal, is, isnt, literal_holds, clause_holds, Satisfies}
 
@@ -72,7 +72,7 @@ module _ (σ : ℕ → Bool) where
 
   abbrev Holds : Known → Type 0
   Holds clash = ⊥
-  Holds (know k) = All True k
+  Holds (know k) = AllByRecursion True k
 
   not-both : (b : Bool) → b ≡ true → not b ≡ true → ⊥
   not-both true p q = false≢true q
@@ -85,7 +85,7 @@ module _ (σ : ℕ → Bool) where
   denied (isnt v) (is w) d p q = not-both (σ v) (ap σ (eqb-true v w d) ∙ q) p
   denied (isnt v) (isnt w) d p q = false≢true d
 
-  some_denied : (l : Literal ℕ) (k : List (Literal ℕ)) → some_literal (denies l) k ≡ true → All True k → literal_holds σ l ≡ false
+  some_denied : (l : Literal ℕ) (k : List (Literal ℕ)) → some_literal (denies l) k ≡ true → AllByRecursion True k → literal_holds σ l ≡ false
   unfolding some_literal
   some_denied l [] d h = absurd (false≢true d)
   some_denied l (m ∷ k) d h = ⊎_elim (λ e. go (literal_holds σ l) refl e) (λ e. some_denied l k e h.1) (or_cases (denies l m) (some_literal (denies l) k) d)
@@ -101,12 +101,12 @@ module _ (σ : ℕ → Bool) where
   same_true (isnt v) (is w) d q = absurd (false≢true d)
   same_true (isnt v) (isnt w) d q = ap (λ x. not (σ x)) (eqb-true v w d) ∙ q
 
-  some-true : (l : Literal ℕ) (k : List (Literal ℕ)) → some_literal (same_literal l) k ≡ true → All True k → True l
+  some-true : (l : Literal ℕ) (k : List (Literal ℕ)) → some_literal (same_literal l) k ≡ true → AllByRecursion True k → True l
   unfolding some_literal
   some-true l [] d h = absurd (false≢true d)
   some-true l (m ∷ k) d h = ⊎_elim (λ e. same_true l m e h.0) (λ e. some-true l k e h.1) (or_cases (same_literal l m) (some_literal (same_literal l) k) d)
 
-  left-holds : (k c : List (Literal ℕ)) → All True k → clause_holds σ c ≡ true → clause_holds σ (left k c) ≡ true
+  left-holds : (k c : List (Literal ℕ)) → AllByRecursion True k → clause_holds σ c ≡ true → clause_holds σ (left k c) ≡ true
   unfolding left
   left-holds k [] h e = e
   left-holds k (l ∷ c) h e = go (some_literal (denies l) k) refl (left-holds k c h)
@@ -123,7 +123,7 @@ module _ (σ : ℕ → Bool) where
       go true d i = i (cases (literal_holds σ l) (clause_holds σ c) e (some_denied l k d h))
       go false d i = keep (literal_holds σ l) (clause_holds σ c) (clause_holds σ (left k c)) e i
 
-  learn-holds : (k c : List (Literal ℕ)) → All True k → clause_holds σ c ≡ true → Holds (learn k c)
+  learn-holds : (k c : List (Literal ℕ)) → AllByRecursion True k → clause_holds σ c ≡ true → Holds (learn k c)
   unfolding learn
   learn-holds k [] h e = false≢true e
   learn-holds k (l ∷ []) h e = go (some_literal (same_literal l) k)
@@ -132,7 +132,7 @@ module _ (σ : ℕ → Bool) where
       alone true p = refl
       alone false p = p
 
-      go : (b : Bool) → All True (cond b k (l ∷ k))
+      go : (b : Bool) → AllByRecursion True (cond b k (l ∷ k))
       go true = h
       go false = (alone (literal_holds σ l) e, h)
   learn-holds k (l ∷ m ∷ c) h e = h
@@ -153,13 +153,13 @@ module _ (σ : ℕ → Bool) where
   assume-holds l clash e h = h
   assume-holds l (know k) e h = (e, h)
 
-  goals-hold : (gs : List (Literal ℕ)) (k : Known) → knows_all gs k ≡ true → Holds k → All True gs
+  goals-hold : (gs : List (Literal ℕ)) (k : Known) → knows_all gs k ≡ true → Holds k → AllByRecursion True gs
   unfolding knows_all
   goals-hold gs clash e h = absurd h
   goals-hold [] (know k) e h = tt
   goals-hold (g ∷ gs) (know k) e h = let p = and_parts (some_literal (same_literal g) k) (knows_all gs (know k)) e in (some-true g k p.0 h, goals-hold gs (know k) p.1 h)
 
-  pub forced : (cs : List (List (Literal ℕ))) (gs : List (Literal ℕ)) (x : Search) (k : Known) → forces cs gs x k ≡ true → Satisfies σ cs → Holds k → All True gs
+  pub forced : (cs : List (List (Literal ℕ))) (gs : List (Literal ℕ)) (x : Search) (k : Known) → forces cs gs x k ≡ true → Satisfies σ cs → Holds k → AllByRecursion True gs
   unfolding forces
   forced cs gs (done n) k e s h = goals-hold gs (passes n k cs) e (passes-hold n k cs s h)
   forced cs gs (split n v x y) k e s h =
@@ -167,6 +167,6 @@ module _ (σ : ℕ → Bool) where
       go (σ v) refl (λ b. forced cs gs x (assume (is v) (passes n k cs)) p.0 s (assume-holds (is v) (passes n k cs) b (passes-hold n k cs s h)))
       (λ b. forced cs gs y (assume (isnt v) (passes n k cs)) p.1 s (assume-holds (isnt v) (passes n k cs) b (passes-hold n k cs s h)))
     where
-      go : (b : Bool) → σ v ≡ b → (σ v ≡ true → All True gs) → (not (σ v) ≡ true → All True gs) → All True gs
+      go : (b : Bool) → σ v ≡ b → (σ v ≡ true → AllByRecursion True gs) → (not (σ v) ≡ true → AllByRecursion True gs) → AllByRecursion True gs
       go true e f g = f e
       go false e f g = g (ap not e)

@@ -2,7 +2,7 @@
 -- Assumes nothing.
 use Rattle.std.proofs.Common.{◌≡◌, ℕ, zero, suc, ◌+◌, ◌<◌, ◌≤◌, true, List, [], ◌∷◌, ◌++◌, map, length, get_or, take, sym, ap, ◌∙◌, subst, arith}
 use lib.ListN.{length-map}
-use Rattle.std.specs.List.{AllByRecursion as All}
+use Rattle.std.specs.List.{AllByRecursion}
 use Rattle.std.proofs.ByRecursion.{All-get_or}
 use Rattle.std.proofs.lemmas.List.{get_or-map, map-append, take_all, take_more}
 use Rattle.encoding.specs.Clauses.{Literal, is, isnt, rename, signed}
@@ -21,16 +21,16 @@ literal-lawful (isnt zero) h = absurd (omega arith)
 literal-lawful (isnt (suc v)) h = literal-neg v (omega arith)
 
 -- the three literals of a clause
-pub three-limits : (k : ℕ) (x : Clause) (a b c : Written) → x ≡ Three a b c → All InLimits (moved k x) → InLimits (rename (λ v. v + k) (lit a)) × InLimits (rename (λ v. v + k) (lit b)) × InLimits (rename (λ v. v + k) (lit c))
-three-limits k x a b c e h = let p = subst (λ y. All InLimits (moved k y)) e h in (p.0, p.1.0, p.1.1.0)
+pub three-limits : (k : ℕ) (x : Clause) (a b c : Written) → x ≡ Three a b c → AllByRecursion InLimits (moved k x) → InLimits (rename (λ v. v + k) (lit a)) × InLimits (rename (λ v. v + k) (lit b)) × InLimits (rename (λ v. v + k) (lit c))
+three-limits k x a b c e h = let p = subst (λ y. AllByRecursion InLimits (moved k y)) e h in (p.0, p.1.0, p.1.1.0)
 
 -- a clause of a list whose literals are all within the limits
-pub at_moved : (k : ℕ) (cs : List Clause) (i : ℕ) (d : Clause) → i < length cs → All (All InLimits) (shifted k (map lits cs)) → All InLimits (moved k (get_or cs i d))
+pub at_moved : (k : ℕ) (cs : List Clause) (i : ℕ) (d : Clause) → i < length cs → AllByRecursion (AllByRecursion InLimits) (shifted k (map lits cs)) → AllByRecursion InLimits (moved k (get_or cs i d))
 at_moved k cs i d l h =
     let m : i < length (map lits cs) = rw length-map l in
     let n : i < length (shifted k (map lits cs)) = rw length-map m in
-    subst (All InLimits) (get_or-map (map (rename (λ v. v + k))) (map lits cs) i [] [] m ∙ ap (map (rename (λ v. v + k))) (get_or-map lits cs i d [] l))
-    (All-get_or (All InLimits) (shifted k (map lits cs)) i [] n h)
+    subst (AllByRecursion InLimits) (get_or-map (map (rename (λ v. v + k))) (map lits cs) i [] [] m ∙ ap (map (rename (λ v. v + k))) (get_or-map lits cs i d [] l))
+    (All-get_or (AllByRecursion InLimits) (shifted k (map lits cs)) i [] n h)
 
 -- one clause more
 pub signs-append : (cs ds : List (List (Literal ℕ))) → signs (cs ++ ds) ≡ signs cs ++ signs ds

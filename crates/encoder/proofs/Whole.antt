@@ -2,7 +2,7 @@
 -- Assumes nothing.
 use Rattle.std.proofs.Common.{◌≡◌, ℕ, ◌+◌, ◌*◌, ◌<◌, ◌≤◌, cond, eqb, List, [], ◌∷◌, ◌++◌, map, length, ℤ, Ok, Err, Result, sym, refl, ap, ◌∙◌, subst, ap₂, arith}
 use lib.ListN.{length-map}
-use Rattle.std.specs.List.{AllByRecursion as All}
+use Rattle.std.specs.List.{AllByRecursion}
 use Rattle.std.proofs.lemmas.List.Sums.{sum_by-append, sum_by-cons}
 use Rattle.std.proofs.lemmas.Bool.Decides.{nat_tests}
 use Rattle.encoding.specs.Clauses.{agenda, formula, goal, kept, rename, signed, signed_formula, start, step, truth}
@@ -43,8 +43,8 @@ module _ (T : Table) (t : Template) (h : Templated T t) where
   unfolding step_size
   size_small s = let p = bounded.pairs_fit T s in omega (arith, h.size, s.0, s.1)
 
-  pub limits : (n : ℕ) → Small T → n ≤ step_limit → All (All InLimits) (unrolled t n)
-  limits n s l = subst (All (All InLimits)) (sym (unrolled-is T t h n)) (bounded.literals_fit T n s l)
+  pub limits : (n : ℕ) → Small T → n ≤ step_limit → AllByRecursion (AllByRecursion InLimits) (unrolled t n)
+  limits n s l = subst (AllByRecursion (AllByRecursion InLimits)) (sym (unrolled-is T t h n)) (bounded.literals_fit T n s l)
 
   pub list-is : (n : ℕ) → signs (unrolled t n) ≡ signed_formula T n
   list-is n = ap signs (unrolled-is T t h n)

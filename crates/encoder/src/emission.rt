@@ -5,7 +5,7 @@ ghost use Rattle.encoder.specs.Emission.{Emitted, emit_answer};
 ghost use Rattle.encoder.specs.Puts.{Adds, InLimits, signs};
 ghost use Rattle.encoding.specs.Limits.{step_limit};
 ghost use Rattle.formula.specs.Templates.{unrolled, unrolled_step};
-ghost use Rattle.std.specs.List.{AllByRecursion as All};
+ghost use Rattle.std.specs.List.{AllByRecursion};
 ghost use Rattle.table.specs.Model.{meant};
 
 use crate::counts::Counts;
@@ -46,7 +46,7 @@ fn emit_in_limits<S: ClauseStore>(table: &Table, n: u32, store: &mut S) -> Resul
 
 // The start's clauses, those of each step, and the goal's.
 fn put_list<S: ClauseStore>(store: &mut S, template: &Template, n: u32)
-    requires limits { All (All InLimits) (unrolled template.now n) }
+    requires limits { AllByRecursion (AllByRecursion InLimits) (unrolled template.now n) }
     requires size { template.now.step_size ≤ 1104 }
     requires steps { n ≤ step_limit }
     ensures puts { Adds S.ClauseStore.held S.ClauseStore.units S.ClauseStore.prices store.old store.new (signs (unrolled template.now n)) }
@@ -65,7 +65,7 @@ fn put_list<S: ClauseStore>(store: &mut S, template: &Template, n: u32)
 
 // The clauses of the step after `step` others.
 fn put_step<S: ClauseStore>(store: &mut S, template: &Template, step: u32)
-    requires limits { All (All InLimits) (unrolled_step template.now step) }
+    requires limits { AllByRecursion (AllByRecursion InLimits) (unrolled_step template.now step) }
     requires size { template.now.step_size ≤ 1104 }
     requires steps { step ≤ step_limit }
     ensures puts { Adds S.ClauseStore.held S.ClauseStore.units S.ClauseStore.prices store.old store.new (signs (unrolled_step template.now step)) }

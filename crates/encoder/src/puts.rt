@@ -5,7 +5,7 @@ ghost use Rattle.encoder.specs.Puts.{Adds, InLimits, moved, signs};
 ghost use Rattle.encoding.specs.Clauses.{rename, signed as signed_of};
 ghost use Rattle.formula.specs.Listings.{lit, lits};
 ghost use Rattle.formula.specs.Templates.{shifted};
-ghost use Rattle.std.specs.List.{AllByRecursion as All};
+ghost use Rattle.std.specs.List.{AllByRecursion};
 ghost use Rattle.store.specs.Clauses.{is_clause};
 
 use formula::{Clause, Literal};
@@ -13,7 +13,7 @@ use store::ClauseStore;
 
 /// Puts clauses one after another.
 pub(crate) fn put_all<S: ClauseStore>(store: &mut S, clauses: &[Clause], shift: u32)
-    requires { All (All InLimits) (shifted shift (map lits clauses.now)) }
+    requires { AllByRecursion (AllByRecursion InLimits) (shifted shift (map lits clauses.now)) }
     ensures puts { Adds S.ClauseStore.held S.ClauseStore.units S.ClauseStore.prices store.old store.new (signs (shifted shift (map lits clauses.now))) }
     ensures grows { S.ClauseStore.grew store.old store.new }
 {
@@ -23,7 +23,7 @@ pub(crate) fn put_all<S: ClauseStore>(store: &mut S, clauses: &[Clause], shift: 
 }
 
 fn put_clause<S: ClauseStore>(store: &mut S, clause: Clause, shift: u32)
-    requires { All InLimits (moved shift clause) }
+    requires { AllByRecursion InLimits (moved shift clause) }
     ensures puts { Adds S.ClauseStore.held S.ClauseStore.units S.ClauseStore.prices store.old store.new (map signed_of (moved shift clause) ∷ []) }
     ensures grows { S.ClauseStore.grew store.old store.new }
 {

@@ -1,7 +1,7 @@
 -- The numbers of pairs and of variables within the limits.
 -- Assumes nothing.
 use Rattle.std.proofs.Common.{ℕ, zero, suc, ◌+◌, ◌*◌, ◌≤◌, suc-mul, mul-le-mul, arith}
-use Rattle.std.specs.List.{AllByRecursion as All}
+use Rattle.std.specs.List.{AllByRecursion}
 use Rattle.std.proofs.ByRecursion.{All-weaker}
 use Rattle.encoding.specs.Ranges.{Each, total}
 use Rattle.encoding.specs.Tables.{Table, events, relevant}
@@ -40,6 +40,6 @@ pub bounded : Bounded
 bounded = record {
   pairs_fit = pairs-within;
   variables_fit = variables-within;
-  literals_fit = λ T n h l. All-weaker (All (λ x. (1 ≤ variable x) × (variable x ≤ variables T n))) (All (λ x. (1 ≤ variable x) × (variable x ≤ literal_limit)))
+  literals_fit = λ T n h l. All-weaker (AllByRecursion (λ x. (1 ≤ variable x) × (variable x ≤ variables T n))) (AllByRecursion (λ x. (1 ≤ variable x) × (variable x ≤ literal_limit)))
       (All-weaker (λ x. (1 ≤ variable x) × (variable x ≤ variables T n)) (λ x. (1 ≤ variable x) × (variable x ≤ literal_limit)) (λ x k. let m = variables-within T n h l in (k.0, omega arith))) (formula T n) (within T n);
 }

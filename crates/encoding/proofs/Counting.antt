@@ -3,7 +3,7 @@
 use Rattle.std.proofs.Common.{◌≡◌, ℕ, zero, suc, ◌+◌, ◌*◌, ◌≤◌, Bool, true, false, cond, not, ◌&&◌, ◌||◌, eqb, ltb, ◌≢◌, List, [], ◌∷◌, ◌++◌, map, length, sym, refl, ap, ◌∙◌, subst, ap₂, suc-mul, add-mul, zero-mul, arith}
 use Rattle.std.proofs.lemmas.Bool.{ne_eqb, eq-eqb}
 use lib.ListN.{length-map}
-use Rattle.std.specs.List.{ContainsAt as Has, AllByRecursion as All}
+use Rattle.std.specs.List.{ContainsAt as Has, AllByRecursion}
 use Rattle.std.proofs.ByRecursion.{All-weaker, all_has_itself}
 use Rattle.std.proofs.lemmas.List.Sums.{get_or-le-sum_by, sum_by-cons, sum_by-append}
 use Rattle.encoding.specs.Ranges.{Each, count, each, only, total}
@@ -171,7 +171,7 @@ counted-in cs c h =
     let (i, l, at) = h in
     subst (λ (k : ℕ). k ≤ of_length (length c) cs) (ap (λ d. cond (eqb (length d) (length c)) 1 0) (at []) ∙ ap (λ b. cond b 1 0) (eq-eqb (length c) (length c) refl)) (get_or-le-sum_by (λ d. cond (eqb (length d) (length c)) 1 0) cs i [] l)
 
-lengths : (T : Table) (n : ℕ) → All (λ c. (1 ≤ length c) × (length c ≤ 3)) (formula T n)
+lengths : (T : Table) (n : ℕ) → AllByRecursion (λ c. (1 ≤ length c) × (length c ≤ 3)) (formula T n)
 lengths T n = All-weaker (Has (formula T n)) _ (λ c h. go (length c) (counted-in (formula T n) c h)) (formula T n) (all_has_itself (formula T n))
   where
     none : (k : ℕ) → 1 ≤ of_length k (formula T n) → k ≢ 1 → k ≢ 2 → k ≢ 3 → ⊥

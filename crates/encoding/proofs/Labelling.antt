@@ -1,7 +1,7 @@
 -- The labelled list is the clause list, and its first false clause is the one that `first_false` finds.
 -- Assumes nothing.
 use Rattle.std.proofs.Common.{◌≡◌, ℕ, zero, suc, ◌+◌, Bool, true, false, cond, List, [], ◌∷◌, ◌++◌, map, length, Some, None, sym, refl, ap, ◌∙◌, subst, ap₂, inl, inr, arith}
-use Rattle.std.specs.List.{AllByRecursion as All}
+use Rattle.std.specs.List.{AllByRecursion}
 use Rattle.std.proofs.ByRecursion.{All-append}
 use Rattle.std.proofs.lemmas.List.{map-append}
 use Rattle.std.proofs.lemmas.Bool.{true≢false}
@@ -45,7 +45,7 @@ module _ (T : Table) where
       ∙ ap₂ ◌++◌ (unlabelled-label 1 0 (start T)) (map_each (λ l. l.clause) n (labelled_step T) ∙ each-cong n _ _ (λ t u v. unlabelled-step t))) (unlabelled-label 5 n (goal T n))
       ∙ sym (formula-is T n)
 
-lawful : (T : Table) (n : ℕ) → All (λ l. Label n l.family l.step) (labelled T n)
+lawful : (T : Table) (n : ℕ) → AllByRecursion (λ l. Label n l.family l.step) (labelled T n)
 unfolding labelled
 lawful T n = All-append IsFitting (label T 1 0 (start T) ++ each n (labelled_step T)) (label T 5 n (goal T n))
     (All-append IsFitting (label T 1 0 (start T)) (each n (labelled_step T)) (one_label 1 0 (start T) (inl (refl, refl))) (each_all IsFitting n (labelled_step T) steps))
@@ -54,11 +54,11 @@ lawful T n = All-append IsFitting (label T 1 0 (start T) ++ each n (labelled_ste
     IsFitting : Labelled → Type 0
     IsFitting l = Label n l.family l.step
 
-    one_label : (k t : ℕ) (cs : List Clause) → Label n k t → All IsFitting (label T k t cs)
+    one_label : (k t : ℕ) (cs : List Clause) → Label n k t → AllByRecursion IsFitting (label T k t cs)
     one_label k t [] h = tt
     one_label k t (c ∷ cs) h = (h, one_label k t cs h)
 
-    steps : Each n (λ t. All IsFitting (labelled_step T t))
+    steps : Each n (λ t. AllByRecursion IsFitting (labelled_step T t))
     steps zero u v = absurd (omega arith)
     steps (suc s) u v = unfold labelled_step in All-append IsFitting (label T 2 (suc s) (agenda T s) ++ label T 3 (suc s) (kept T s)) (label T 4 (suc s) (truth T s))
         (All-append IsFitting (label T 2 (suc s) (agenda T s)) (label T 3 (suc s) (kept T s)) (one_label 2 (suc s) (agenda T s) (inr (inl (omega arith, omega arith, u, v)))) (one_label 3 (suc s) (kept T s) (inr (inl (omega arith, omega arith, u, v)))))

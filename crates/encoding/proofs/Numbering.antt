@@ -2,7 +2,7 @@
 -- Assumes nothing.
 use Rattle.std.proofs.Common.{◌≡◌, ℕ, zero, suc, ◌+◌, ◌*◌, ◌<◌, Bool, true, false, cond, [], ◌∷◌, ◌++◌, map, length, get_or, sym, refl, ap, ◌∙◌, suc-mul, zero-mul, arith}
 use lib.ListN.{length-map}
-use Rattle.std.specs.List.{AllByRecursion as All}
+use Rattle.std.specs.List.{AllByRecursion}
 use Rattle.std.proofs.lemmas.List.{map-append, get_or-map}
 use Rattle.std.proofs.ByRecursion.{All-append}
 use Rattle.encoding.specs.Ranges.{count, each, total}
@@ -71,7 +71,7 @@ module _ (T : Table) where
       let m : k < length (vars T n) = rw (length-vars n) l in
       sym (get_or-map (number T) (vars T n) k d 0 m) ∙ ap (λ xs. get_or xs k 0) (all-numbers n) ∙ get_or-ups 0 (variables T n) k 0 l ∙ omega arith
 
-  pub vars-ranged : (n : ℕ) → All (InRange T n) (vars T n)
+  pub vars-ranged : (n : ℕ) → AllByRecursion (InRange T n) (vars T n)
   unfolding vars step_vars
   vars-ranged n = All-append (InRange T n) (Xs T 0 ++ Os T 0) (each n (step_vars T))
       (All-append (InRange T n) (Xs T 0) (Os T 0) (each_all (InRange T n) T.facts _ (λ p u v. ((omega arith, u, v), tt))) (each_all (InRange T n) T.actions _ (λ a u v. ((omega arith, u, v), tt))))

@@ -1,7 +1,7 @@
 -- Plans as lists, and as which events are in which step.
 -- Assumes nothing.
 use Rattle.std.proofs.Common.{◌≡◌, ℕ, zero, suc, ◌<◌, ◌≤◌, Bool, true, false, cond, ◌&&◌, eqb, ◌⊎◌, [], ◌∷◌, ◌++◌, sym, refl, ap, ◌∙◌, subst, ap₂, inl, inr, ⊎_elim, arith}
-use Rattle.std.specs.List.{AllByRecursion as All}
+use Rattle.std.specs.List.{AllByRecursion}
 use Rattle.std.proofs.ByRecursion.{All-append, All-weaker}
 use Rattle.std.proofs.lemmas.Bool.{false≢true, or_cases, or_left, or_right, and_parts, and_from, eq-eqb, eqb-true}
 use Rattle.encoding.specs.Ranges.{Each, each}
@@ -101,7 +101,7 @@ module _ (T : Table) (y : ℕ → ℕ → Bool) where
 -- each is before all that come after it
 abbrev pub Ordered : Plan → Type 0
 Ordered [] = Unit {0}
-Ordered (x ∷ π) = All (Before x) π × Ordered π
+Ordered (x ∷ π) = AllByRecursion (Before x) π × Ordered π
 
 pub before-trans : (x y z : ℕ × ℕ) → Before x y → Before y z → Before x z
 before-trans x y z (inl a) (inl b) = inl (omega arith)
@@ -125,14 +125,14 @@ rising-ordered [] h = tt
 rising-ordered (x ∷ []) h = (tt, tt)
 rising-ordered (x ∷ y ∷ π) h = let k = rising-ordered (y ∷ π) h.1 in ((h.0, All-weaker (Before y) (Before x) (λ z. before-trans x y z h.0) π k.0), k)
 
-pub ordered-append : (π ρ : Plan) → Ordered π → Ordered ρ → All (λ x. All (Before x) ρ) π → Ordered (π ++ ρ)
+pub ordered-append : (π ρ : Plan) → Ordered π → Ordered ρ → AllByRecursion (λ x. AllByRecursion (Before x) ρ) π → Ordered (π ++ ρ)
 ordered-append [] ρ h k b = k
 ordered-append (x ∷ π) ρ h k b = (All-append (Before x) π ρ h.0 b.0, ordered-append π ρ h.1 k b.1)
 
-pub stepped-placed : (y : ℕ → Bool) (t k : ℕ) → All (λ x. (x.0 ≡ t) × (1 ≤ x.1) × (x.1 ≤ k) × (y x.1 ≡ true)) (stepped y t k)
+pub stepped-placed : (y : ℕ → Bool) (t k : ℕ) → AllByRecursion (λ x. (x.0 ≡ t) × (1 ≤ x.1) × (x.1 ≤ k) × (y x.1 ≡ true)) (stepped y t k)
 stepped-placed y t k = each_all _ k (λ e. cond (y e) ((t, e) ∷ []) []) (λ e u v. in-only (λ x. (x.0 ≡ t) × (1 ≤ x.1) × (x.1 ≤ k) × (y x.1 ≡ true)) (y e) ((t, e) ∷ []) (λ i. ((refl, u, v, i), tt)))
 
-pub steps-placed : (T : Table) (y : ℕ → ℕ → Bool) (n : ℕ) → All (λ x. Placed T n x × (y x.0 x.1 ≡ true)) (steps T y n)
+pub steps-placed : (T : Table) (y : ℕ → ℕ → Bool) (n : ℕ) → AllByRecursion (λ x. Placed T n x × (y x.0 x.1 ≡ true)) (steps T y n)
 steps-placed T y n = each_all _ n (λ t. stepped (y t) t (events T)) (λ t u v. All-weaker (λ x. (x.0 ≡ t) × (1 ≤ x.1) × (x.1 ≤ events T) × (y t x.1 ≡ true)) (λ x. Placed T n x × (y x.0 x.1 ≡ true))
     (λ x h. ((omega arith, omega arith, h.1, h.2), ap (λ i. y i x.1) h.0 ∙ h.3)) (stepped (y t) t (events T)) (stepped-placed (y t) t (events T)))
 
@@ -140,7 +140,7 @@ pub stepped-ordered : (y : ℕ → Bool) (t k : ℕ) → Ordered (stepped y t k)
 unfolding each
 stepped-ordered y t zero = tt
 stepped-ordered y t (suc k) = ordered-append (stepped y t k) (cond (y (suc k)) ((t, suc k) ∷ []) []) (stepped-ordered y t k) (go (y (suc k)))
-    (All-weaker _ (λ x. All (Before x) (cond (y (suc k)) ((t, suc k) ∷ []) [])) (λ x h. in-only (Before x) (y (suc k)) ((t, suc k) ∷ []) (λ i. (inr (h.0, omega arith), tt))) (stepped y t k) (stepped-placed y t k))
+    (All-weaker _ (λ x. AllByRecursion (Before x) (cond (y (suc k)) ((t, suc k) ∷ []) [])) (λ x h. in-only (Before x) (y (suc k)) ((t, suc k) ∷ []) (λ i. (inr (h.0, omega arith), tt))) (stepped y t k) (stepped-placed y t k))
   where
     go : (b : Bool) → Ordered (cond b ((t, suc k) ∷ []) [])
     go true = (tt, tt)
@@ -150,7 +150,7 @@ pub steps-ordered : (T : Table) (y : ℕ → ℕ → Bool) (n : ℕ) → Ordered
 unfolding each
 steps-ordered T y zero = tt
 steps-ordered T y (suc n) = ordered-append (steps T y n) (stepped (y (suc n)) (suc n) (events T)) (steps-ordered T y n) (stepped-ordered (y (suc n)) (suc n) (events T))
-    (All-weaker _ (λ x. All (Before x) (stepped (y (suc n)) (suc n) (events T))) (λ x h. All-weaker _ (Before x) (λ z k. inl (omega arith)) (stepped (y (suc n)) (suc n) (events T)) (stepped-placed (y (suc n)) (suc n) (events T))) (steps T y n) (steps-placed T y n))
+    (All-weaker _ (λ x. AllByRecursion (Before x) (stepped (y (suc n)) (suc n) (events T))) (λ x h. All-weaker _ (Before x) (λ z k. inl (omega arith)) (stepped (y (suc n)) (suc n) (events T)) (stepped-placed (y (suc n)) (suc n) (events T))) (steps T y n) (steps-placed T y n))
 
 -- A working choice of events is a valid plan, and the other way round
 
@@ -174,7 +174,7 @@ valid-works T n y w = record {
 
 -- What is in a plan
 
-pub all-in_step : (P : ℕ × ℕ → Type 0) (π : Plan) → All P π → (t e : ℕ) → in_step π t e ≡ true → P (t, e)
+pub all-in_step : (P : ℕ × ℕ → Type 0) (π : Plan) → AllByRecursion P π → (t e : ℕ) → in_step π t e ≡ true → P (t, e)
 unfolding in_step
 all-in_step P [] h t e i = absurd (false≢true i)
 all-in_step P (x ∷ π) h t e i = ⊎_elim (λ j. let k = and_parts (eqb x.0 t) (eqb x.1 e) j in subst P (λ i. (eqb-true x.0 t k.0 i, eqb-true x.1 e k.1 i)) h.0) (λ j. all-in_step P π h.1 t e j) (or_cases (eqb x.0 t && eqb x.1 e) (in_step π t e) i)
@@ -208,12 +208,12 @@ plan_from-placed T n y t e h = all-in_step (λ x. Placed T n x × (y x.0 x.1 ≡
 
 -- Rising plans with the same events in the same steps are one plan
 
-in_step-head : (x z : ℕ × ℕ) (π ρ : Plan) → ((t e : ℕ) → in_step (x ∷ π) t e ≡ true → in_step (z ∷ ρ) t e ≡ true) → All (Before z) ρ → (z ≡ x) ⊎ Before z x
+in_step-head : (x z : ℕ × ℕ) (π ρ : Plan) → ((t e : ℕ) → in_step (x ∷ π) t e ≡ true → in_step (z ∷ ρ) t e ≡ true) → AllByRecursion (Before z) ρ → (z ≡ x) ⊎ Before z x
 unfolding in_step
 in_step-head x z π ρ h b = ⊎_elim (λ j. let k = and_parts (eqb z.0 x.0) (eqb z.1 x.1) j in inl (λ i. (eqb-true z.0 x.0 k.0 i, eqb-true z.1 x.1 k.1 i)))
     (λ j. inr (all-in_step (Before z) ρ b x.0 x.1 j)) (or_cases (eqb z.0 x.0 && eqb z.1 x.1) (in_step ρ x.0 x.1) (h x.0 x.1 (in_step-here x.0 x.1 π)))
 
-in_step-tail : (x : ℕ × ℕ) (π ρ : Plan) → All (Before x) π → ((t e : ℕ) → in_step (x ∷ π) t e ≡ true → in_step (x ∷ ρ) t e ≡ true) → (t e : ℕ) → in_step π t e ≡ true → in_step ρ t e ≡ true
+in_step-tail : (x : ℕ × ℕ) (π ρ : Plan) → AllByRecursion (Before x) π → ((t e : ℕ) → in_step (x ∷ π) t e ≡ true → in_step (x ∷ ρ) t e ≡ true) → (t e : ℕ) → in_step π t e ≡ true → in_step ρ t e ≡ true
 unfolding in_step
 in_step-tail x π ρ b h t e i = ⊎_elim
     (λ j. let k = and_parts (eqb x.0 t) (eqb x.1 e) j in absurd (go (eqb-true x.0 t k.0) (eqb-true x.1 e k.1) (all-in_step (Before x) π b t e i)))
@@ -231,7 +231,7 @@ same-plan (x ∷ π) (z ∷ ρ) a b f g =
     let e : z ≡ x = go (in_step-head x z π ρ f b.0) (in_step-head z x ρ π g a.0) in
     let f' : (t e : ℕ) → in_step (x ∷ π) t e ≡ true → in_step (x ∷ ρ) t e ≡ true = rw e at f in
     let g' : (t e : ℕ) → in_step (x ∷ ρ) t e ≡ true → in_step (x ∷ π) t e ≡ true = rw e at g in
-    let b' : All (Before x) ρ = rw e at b.0 in
+    let b' : AllByRecursion (Before x) ρ = rw e at b.0 in
     ap₂ ◌∷◌ (sym e) (same-plan π ρ a.1 b.1 (in_step-tail x π ρ a.0 f') (in_step-tail x ρ π b' g'))
   where
     go : (z ≡ x) ⊎ Before z x → (x ≡ z) ⊎ Before x z → z ≡ x
@@ -239,5 +239,5 @@ same-plan (x ∷ π) (z ∷ ρ) a b f g =
     go (inr h) (inl e) = sym e
     go (inr h) (inr k) = absurd (before-not x z k h)
 
-pub plan_from-in_step : (T : Table) (n : ℕ) (π : Plan) → All (Placed T n) π → Rising π → plan_from T n (in_step π) ≡ π
+pub plan_from-in_step : (T : Table) (n : ℕ) (π : Plan) → AllByRecursion (Placed T n) π → Rising π → plan_from T n (in_step π) ≡ π
 plan_from-in_step T n π h r = same-plan (plan_from T n (in_step π)) π (unfold plan_from in steps-ordered T (in_step π) n) (rising-ordered π r) (λ t e i. (plan_from-placed T n (in_step π) t e i).1) (λ t e i. in_step-plan_from T n (in_step π) t e (all-in_step (Placed T n) π h t e i) i)

@@ -1,7 +1,7 @@
 -- The state before a turn is that of the pairs that come before it.
 -- Assumes nothing.
 use Rattle.std.proofs.Common.{◌≡◌, ℕ, zero, suc, ◌<◌, ◌≤◌, Bool, true, false, cond, eqb, ltb, ◌⊎◌, List, [], ◌∷◌, ◌++◌, filter, sym, refl, ap, ◌∙◌, subst, ap₂, inl, inr, ⊎_elim, append-nil, arith}
-use Rattle.std.specs.List.{AllByRecursion as All}
+use Rattle.std.specs.List.{AllByRecursion}
 use Rattle.std.proofs.lemmas.List.Elements.{filter-append}
 use Rattle.std.proofs.ByRecursion.{All-weaker}
 use Rattle.std.proofs.lemmas.Bool.{or_left, or_right, or_from, and_from, and_left, and_right, eq-eqb, ne_eqb, lt-ltb, le-ltb}
@@ -14,11 +14,11 @@ use Rattle.encoding.specs.Turns.{value_at, walk, walk_steps}
 use Rattle.encoding.proofs.Ranges.{last_or}
 use Rattle.encoding.proofs.Plans.{plan_from-in_step, run-append, run-stepped, run-steps, stepped, stepped-placed, steps, steps-placed}
 
-kept-all : {X : Type 0} (p : X → Bool) (xs : List X) → All (λ x. p x ≡ true) xs → filter p xs ≡ xs
+kept-all : {X : Type 0} (p : X → Bool) (xs : List X) → AllByRecursion (λ x. p x ≡ true) xs → filter p xs ≡ xs
 kept-all p [] h = refl
 kept-all p (x ∷ xs) h = rw h.0 (ap (λ l. x ∷ l) (kept-all p xs h.1))
 
-kept-none : {X : Type 0} (p : X → Bool) (xs : List X) → All (λ x. p x ≡ false) xs → filter p xs ≡ []
+kept-none : {X : Type 0} (p : X → Bool) (xs : List X) → AllByRecursion (λ x. p x ≡ false) xs → filter p xs ≡ []
 kept-none p [] h = refl
 kept-none p (x ∷ xs) h = rw h.0 (kept-none p xs h.1)
 
@@ -76,10 +76,10 @@ module _ (T : Table) (y : ℕ → ℕ → Bool) where
       cases : t ≤ n → (t ≡ n) ⊎ (t < n)
       cases l = ⊎_elim (λ i. inl (omega arith)) (λ i. inr i) (last_or n (suc t) (omega arith))
 
-from : (T : Table) (n : ℕ) (π : Plan) → All (Placed T n) π → Rising π → (t e : ℕ) → run T (initially T) (filter (earlier t e) π) ≡ run T (initially T) (filter (earlier t e) (steps T (in_step π) n))
+from : (T : Table) (n : ℕ) (π : Plan) → AllByRecursion (Placed T n) π → Rising π → (t e : ℕ) → run T (initially T) (filter (earlier t e) π) ≡ run T (initially T) (filter (earlier t e) (steps T (in_step π) n))
 from T n π h r t e = ap (λ ρ. run T (initially T) (filter (earlier t e) ρ)) (sym (unfold plan_from in plan_from-in_step T n π h r))
 
-pub values_agree : (T : Table) (n : ℕ) (π : Plan) → All (Placed T n) π → Rising π → (v : Var) → InRange T n v → value_of T π v ≡ value_at T (in_step π) v
+pub values_agree : (T : Table) (n : ℕ) (π : Plan) → AllByRecursion (Placed T n) π → Rising π → (v : Var) → InRange T n v → value_of T π v ≡ value_at T (in_step π) v
 unfolding value_of value_at state_before
 values_agree T n π h r (X t p) i = ap (λ s. s.holds p) (from T n π h r (suc t) 1 ∙ state-after T (in_step π) n t i.0)
 values_agree T n π h r (O t a) i = ap (λ s. s.is_open a) (from T n π h r (suc t) 1 ∙ state-after T (in_step π) n t i.0)

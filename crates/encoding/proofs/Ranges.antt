@@ -4,15 +4,15 @@ use Rattle.std.proofs.Common.{◌≡◌, ℕ, zero, suc, ◌+◌, ◌-◌, ◌<�
 use Rattle.std.proofs.ByRecursion.{All-append, has_append_left, has_append_right}
 use Rattle.std.proofs.lemmas.List.{map-append, get_or_append_left, get_or_push}
 use Rattle.std.proofs.lemmas.Bool.{false≢true, true≢false}
-use Rattle.std.specs.List.{ContainsAt as Has, AllByRecursion as All}
+use Rattle.std.specs.List.{ContainsAt as Has, AllByRecursion}
 use native.Mathlib.Decide.{dec_le}
 use Rattle.encoding.specs.Ranges.{Each, count, each, some, total, up_to}
 
-pub all_left : {X : Type 0} (P : X → Type 0) (xs ys : List X) → All P (xs ++ ys) → All P xs
+pub all_left : {X : Type 0} (P : X → Type 0) (xs ys : List X) → AllByRecursion P (xs ++ ys) → AllByRecursion P xs
 all_left P [] ys h = tt
 all_left P (x ∷ xs) ys h = (h.0, all_left P xs ys h.1)
 
-pub all_right : {X : Type 0} (P : X → Type 0) (xs ys : List X) → All P (xs ++ ys) → All P ys
+pub all_right : {X : Type 0} (P : X → Type 0) (xs ys : List X) → AllByRecursion P (xs ++ ys) → AllByRecursion P ys
 all_right P [] ys h = h
 all_right P (x ∷ xs) ys h = all_right P xs ys h.1
 
@@ -24,13 +24,13 @@ last_or n i h = go (dec_le i n)
     go (yes l) = inr l
     go (no l) = inl (omega arith)
 
-pub all-each : {X : Type 0} (P : X → Type 0) (n : ℕ) (f : ℕ → List X) → All P (each n f) → Each n (λ i. All P (f i))
+pub all-each : {X : Type 0} (P : X → Type 0) (n : ℕ) (f : ℕ → List X) → AllByRecursion P (each n f) → Each n (λ i. AllByRecursion P (f i))
 unfolding each
 all-each P zero f h i l m = absurd (omega arith)
 all-each P (suc n) f h i l m =
     ⊎_elim (λ e. rw e (all_right P (each n f) (f (suc n)) h)) (λ k. all-each P n f (all_left P (each n f) (f (suc n)) h) i l k) (last_or n i m)
 
-pub each_all : {X : Type 0} (P : X → Type 0) (n : ℕ) (f : ℕ → List X) → Each n (λ i. All P (f i)) → All P (each n f)
+pub each_all : {X : Type 0} (P : X → Type 0) (n : ℕ) (f : ℕ → List X) → Each n (λ i. AllByRecursion P (f i)) → AllByRecursion P (each n f)
 unfolding each
 each_all P zero f h = tt
 each_all P (suc n) f h = All-append P (each n f) (f (suc n)) (each_all P n f (λ i l m. h i l (omega arith))) (h (suc n) (omega arith) (omega arith))
@@ -49,11 +49,11 @@ unfolding some
 none-some zero f h = refl
 none-some (suc n) f h = rw (none-some n f (λ i l m. h i l (omega arith)), h (suc n) (omega arith) (omega arith))
 
-pub only-in : {X : Type 0} (P : X → Type 0) (b : Bool) (xs : List X) → All P (cond b xs []) → b ≡ true → All P xs
+pub only-in : {X : Type 0} (P : X → Type 0) (b : Bool) (xs : List X) → AllByRecursion P (cond b xs []) → b ≡ true → AllByRecursion P xs
 only-in P true xs h e = h
 only-in P false xs h e = absurd (false≢true e)
 
-pub in-only : {X : Type 0} (P : X → Type 0) (b : Bool) (xs : List X) → (b ≡ true → All P xs) → All P (cond b xs [])
+pub in-only : {X : Type 0} (P : X → Type 0) (b : Bool) (xs : List X) → (b ≡ true → AllByRecursion P xs) → AllByRecursion P (cond b xs [])
 in-only P true xs h = h refl
 in-only P false xs h = tt
 

@@ -1,7 +1,7 @@
 -- The clauses of a step are those of the step before with S added to each variable.
 -- Assumes nothing.
 use Rattle.std.proofs.Common.{◌≡◌, ℕ, zero, suc, ◌+◌, ◌-◌, ◌*◌, Bool, true, false, cond, not, ◌&&◌, eqb, ltb, List, [], ◌∷◌, ◌++◌, map, sym, refl, ap, ◌∙◌, ap₂, suc-mul, zero-mul, arith}
-use Rattle.std.specs.List.{AllByRecursion as All}
+use Rattle.std.specs.List.{AllByRecursion}
 use Rattle.std.proofs.lemmas.List.{map-append}
 use Rattle.encoding.specs.Ranges.{each, only}
 use Rattle.encoding.specs.Tables.{Table, events, harms, owner, relevant, requires}
@@ -48,12 +48,12 @@ module _ (T : Table) where
   number-O zero a = rw zero-mul (omega arith)
   number-O (suc s) a = unfold variables step_size in rw (suc-mul s (T.facts + 3 * T.actions + pairs T)) (omega arith)
 
-  shift-clause : (n : ℕ) (c : Clause) → All (λ l. InRange T n (variable l)) c → map (rename (number T)) (map (rename later) c) ≡ map (rename (λ v. v + step_size T)) (map (rename (number T)) c)
+  shift-clause : (n : ℕ) (c : Clause) → AllByRecursion (λ l. InRange T n (variable l)) c → map (rename (number T)) (map (rename later) c) ≡ map (rename (λ v. v + step_size T)) (map (rename (number T)) c)
   shift-clause n [] h = refl
   shift-clause n (is v ∷ c) h = ap₂ (λ (x : ℕ) d. is x ∷ d) (number-later n v h.0) (shift-clause n c h.1)
   shift-clause n (isnt v ∷ c) h = ap₂ (λ (x : ℕ) d. isnt x ∷ d) (number-later n v h.0) (shift-clause n c h.1)
 
-  pub shift-clauses : (n : ℕ) (cs : List Clause) → All (All (λ l. InRange T n (variable l))) cs → numbered T (later_clauses cs) ≡ map (map (rename (λ v. v + step_size T))) (numbered T cs)
+  pub shift-clauses : (n : ℕ) (cs : List Clause) → AllByRecursion (AllByRecursion (λ l. InRange T n (variable l))) cs → numbered T (later_clauses cs) ≡ map (map (rename (λ v. v + step_size T))) (numbered T cs)
   shift-clauses n [] h = refl
   shift-clauses n (c ∷ cs) h = ap₂ ◌∷◌ (shift-clause n c h.0) (shift-clauses n cs h.1)
 

@@ -1,7 +1,7 @@
 -- The theorem over variables that are no numbers yet, and over which events are in which step.
 -- Assumes nothing.
 use Rattle.std.proofs.Common.{◌≡◌, ℕ, zero, suc, ◌<◌, ◌≤◌, Bool, true, false, cond, not, ◌||◌, [], ◌∷◌, ◌++◌, sym, refl, ◌∙◌, arith}
-use Rattle.std.specs.List.{AllByRecursion as All}
+use Rattle.std.specs.List.{AllByRecursion}
 use Rattle.std.proofs.ByRecursion.{All-append}
 use Rattle.encoding.specs.Ranges.{Each, each}
 use Rattle.encoding.specs.Tables.{Table, events}
@@ -38,11 +38,11 @@ module _ (T : Table) (n : ℕ) (τ : Var → Bool) (h : Satisfies τ (clauses T 
   abbrev chosen : ℕ → ℕ → Bool
   chosen t e = τ (Y t e)
 
-  first_part : All IsGood (start T)
+  first_part : AllByRecursion IsGood (start T)
   unfolding clauses
   first_part = all_left IsGood (start T) (each n (step T)) (all_left IsGood (start T ++ each n (step T)) (goal T n) h)
 
-  last-part : All IsGood (goal T n)
+  last-part : AllByRecursion IsGood (goal T n)
   unfolding clauses
   last-part = all_right IsGood (start T ++ each n (step T)) (goal T n) h
 
@@ -98,7 +98,7 @@ module _ (T : Table) (n : ℕ) (y : ℕ → ℕ → Bool) (w : Works T n y) wher
   abbrev IsFine : Clause → Type 0
   IsFine c = clause_holds (value_at T y) c ≡ true
 
-  start-satisfied : All IsFine (start T)
+  start-satisfied : AllByRecursion IsFine (start T)
   unfolding start value_at walk_steps initially
   start-satisfied = All-append IsFine (start_facts T) (none_open T 0)
       (each_all IsFine T.facts _ (λ p u v. (go p (T.initial p) refl, tt)))
@@ -108,13 +108,13 @@ module _ (T : Table) (n : ℕ) (y : ℕ → ℕ → Bool) (w : Works T n y) wher
       go p true e = says-unit (T.initial p) e
       go p false e = denies-unit (T.initial p) e
 
-  goal-satisfied : All IsFine (goal T n)
+  goal-satisfied : AllByRecursion IsFine (goal T n)
   unfolding goal value_at
   goal-satisfied = All-append IsFine (goal_facts T n) (none_open T n)
       (each_all IsFine T.facts _ (λ p u v. in-only IsFine (T.goal p) _ (λ g. (says-unit ((walk_steps T y n).holds p) (w.goals p u v g), tt))))
       (each_all IsFine T.actions _ (λ a u v. (denies-unit ((walk_steps T y n).is_open a) (w.closed a u v), tt)))
 
-  steps-satisfied : Each n (λ t. All IsFine (step T t))
+  steps-satisfied : Each n (λ t. AllByRecursion IsFine (step T t))
   steps-satisfied zero l m = absurd (omega arith)
   steps-satisfied (suc s) l m = step-satisfied T (value_at T y) s (complete-step T y s (λ k. w.running s k m))
 

@@ -1,7 +1,7 @@
 -- The values of a plan, turn by turn, as a loop writes them.
 -- Assumes nothing.
 use Rattle.std.proofs.Common.{◌≡◌, ℕ, zero, suc, ◌-◌, ◌≤◌, Bool, true, false, List, [], ◌∷◌, ◌++◌, map, refl, ap, ◌∙◌, ap₂, arith}
-use Rattle.std.specs.List.{AllByRecursion as All}
+use Rattle.std.specs.List.{AllByRecursion}
 use Rattle.std.proofs.lemmas.List.{map-append}
 use Rattle.std.proofs.ByRecursion.{All-weaker}
 use Rattle.encoding.specs.Ranges.{only}
@@ -14,11 +14,11 @@ use Rattle.encoding.proofs.Ranges.{each-cong, map_each}
 use Rattle.encoding.proofs.Prefixes.{values_agree}
 use Rattle.encoding.proofs.Numbering.{vars-ranged}
 
-map_same : {A B : Type 0} (f g : A → B) (xs : List A) → All (λ x. f x ≡ g x) xs → map f xs ≡ map g xs
+map_same : {A B : Type 0} (f g : A → B) (xs : List A) → AllByRecursion (λ x. f x ≡ g x) xs → map f xs ≡ map g xs
 map_same f g [] h = refl
 map_same f g (x ∷ xs) h = ap₂ ◌∷◌ h.0 (map_same f g xs h.1)
 
-pub values-turns : (T : Table) (n : ℕ) (π : Plan) → All (Placed T n) π → Rising π → values T n π ≡ map (value_at T (in_step π)) (vars T n)
+pub values-turns : (T : Table) (n : ℕ) (π : Plan) → AllByRecursion (Placed T n) π → Rising π → values T n π ≡ map (value_at T (in_step π)) (vars T n)
 unfolding values
 values-turns T n π h r = map_same (value_of T π) (value_at T (in_step π)) (vars T n) (All-weaker (InRange T n) _ (λ v. values_agree T n π h r v) (vars T n) (vars-ranged T n))
 

@@ -1,7 +1,7 @@
 -- Each family of step s + 1 is that of the first step with s times the step's size added to each variable; and so is the goal's.
 -- Assumes nothing.
 use Rattle.std.proofs.Common.{◌≡◌, ℕ, zero, suc, ◌+◌, ◌*◌, List, [], ◌∷◌, ◌++◌, map, sym, refl, ap, ◌∙◌, ap₂, suc-mul, zero-mul, arith}
-use Rattle.std.specs.List.{AllByRecursion as All}
+use Rattle.std.specs.List.{AllByRecursion}
 use Rattle.encoding.specs.Tables.{Table}
 use Rattle.encoding.specs.Variables.{InRange, step_size}
 use Rattle.encoding.specs.Clauses.{Clause, Literal, agenda, goal, goal_facts, is, isnt, kept, none_open, numbered, rename, step, truth, truth_of, variable}
@@ -33,7 +33,7 @@ plus_none k (l ∷ cs) e = ap₂ ◌∷◌ (same-clause k l e) (plus_none k cs e
 
 module _ (T : Table) where
   -- a family whose clauses of each step are those of the step before, one step later
-  family-plus : (f : ℕ → List Clause) (bound : ℕ → ℕ) → ((s : ℕ) → later_clauses (f s) ≡ f (suc s)) → ((s : ℕ) → All (All (λ l. InRange T (bound s) (variable l))) (f s)) → (s : ℕ) → numbered T (f s) ≡ plus (s * step_size T) (numbered T (f 0))
+  family-plus : (f : ℕ → List Clause) (bound : ℕ → ℕ) → ((s : ℕ) → later_clauses (f s) ≡ f (suc s)) → ((s : ℕ) → AllByRecursion (AllByRecursion (λ l. InRange T (bound s) (variable l))) (f s)) → (s : ℕ) → numbered T (f s) ≡ plus (s * step_size T) (numbered T (f 0))
   family-plus f bound l r zero = plus_none (0 * step_size T) (numbered T (f 0)) (zero-mul (step_size T))
   family-plus f bound l r (suc s) =
       ap (numbered T) (sym (l s))
@@ -41,7 +41,7 @@ module _ (T : Table) where
       ∙ ap (plus (step_size T)) (family-plus f bound l r s)
       ∙ plus-plus (step_size T) (s * step_size T) (suc s * step_size T) (numbered T (f 0)) (suc-mul s (step_size T))
 
-  step_range : (s : ℕ) → All (All (λ l. InRange T (suc s) (variable l))) (agenda T s ++ kept T s ++ truth T s)
+  step_range : (s : ℕ) → AllByRecursion (AllByRecursion (λ l. InRange T (suc s) (variable l))) (agenda T s ++ kept T s ++ truth T s)
   step_range s = unfold step in step_in T (suc s) (suc s) (omega arith) (omega arith)
 
   pub agenda-plus : (s : ℕ) → numbered T (agenda T s) ≡ plus (s * step_size T) (numbered T (agenda T 0))

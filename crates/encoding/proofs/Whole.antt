@@ -2,7 +2,7 @@
 -- Assumes nothing.
 use Rattle.std.proofs.Common.{◌≡◌, ℕ, zero, suc, ◌-◌, ◌<◌, ◌≤◌, Bool, true, false, cond, not, ◌||◌, List, [], ◌∷◌, ◌++◌, map, length, get_or, sym, refl, ap, ◌∙◌, subst, ap₂, arith}
 use lib.ListN.{length-map}
-use Rattle.std.specs.List.{ContainsAt as Has, AllByRecursion as All}
+use Rattle.std.specs.List.{ContainsAt as Has, AllByRecursion}
 use Rattle.std.proofs.lemmas.List.{get_or-map}
 use Rattle.std.proofs.lemmas.Bool.{both_ways}
 use Rattle.std.proofs.ByRecursion.{All-weaker, All-get_or, has_append_left, has_append_right, All-map}
@@ -38,12 +38,12 @@ rename-satisfied f σ (c ∷ cs) h = (rename-holds f σ c ∙ h.0, rename-satisf
 
 -- Assignments that agree on what is mentioned
 
-holds-cong : {A : Type 0} (σ τ : A → Bool) (c : List (Literal A)) → All (λ l. σ (variable l) ≡ τ (variable l)) c → clause_holds σ c ≡ clause_holds τ c
+holds-cong : {A : Type 0} (σ τ : A → Bool) (c : List (Literal A)) → AllByRecursion (λ l. σ (variable l) ≡ τ (variable l)) c → clause_holds σ c ≡ clause_holds τ c
 holds-cong σ τ [] h = refl
 holds-cong σ τ (is v ∷ c) h = ap₂ ◌||◌ h.0 (holds-cong σ τ c h.1)
 holds-cong σ τ (isnt v ∷ c) h = ap₂ (λ a b. not a || b) h.0 (holds-cong σ τ c h.1)
 
-satisfies-cong : {A : Type 0} (R : A → Type 0) (σ τ : A → Bool) → ((v : A) → R v → σ v ≡ τ v) → (cs : List (List (Literal A))) → All (All (λ l. R (variable l))) cs → Satisfies σ cs → Satisfies τ cs
+satisfies-cong : {A : Type 0} (R : A → Type 0) (σ τ : A → Bool) → ((v : A) → R v → σ v ≡ τ v) → (cs : List (List (Literal A))) → AllByRecursion (AllByRecursion (λ l. R (variable l))) cs → Satisfies σ cs → Satisfies τ cs
 satisfies-cong R σ τ e [] r h = tt
 satisfies-cong R σ τ e (c ∷ cs) r h = (sym (holds-cong σ τ c (All-weaker (λ l. R (variable l)) (λ l. σ (variable l) ≡ τ (variable l)) (λ l. e (variable l)) c r.0)) ∙ h.0, satisfies-cong R σ τ e cs r.1 h.1)
 
@@ -158,15 +158,15 @@ complete T n π h =
       plan_from-cong T n (λ t e. assignment (values T n π) (number T (Y t e))) (in_step π) (λ t e r. assignment-at T n (value_of T π) (Y t e) r ∙ (unfold value_of in refl)) ∙ e,
     )
 
-rename-in : {A B : Type 0} (f : A → B) (R : A → Type 0) (Q : B → Type 0) → ((v : A) → R v → Q (f v)) → (c : List (Literal A)) → All (λ l. R (variable l)) c → All (λ l. Q (variable l)) (map (rename f) c)
+rename-in : {A B : Type 0} (f : A → B) (R : A → Type 0) (Q : B → Type 0) → ((v : A) → R v → Q (f v)) → (c : List (Literal A)) → AllByRecursion (λ l. R (variable l)) c → AllByRecursion (λ l. Q (variable l)) (map (rename f) c)
 rename-in f R Q h [] r = tt
 rename-in f R Q h (is v ∷ c) r = (h v r.0, rename-in f R Q h c r.1)
 rename-in f R Q h (isnt v ∷ c) r = (h v r.0, rename-in f R Q h c r.1)
 
 pub within : Within
 unfolding formula
-within T n = All-map (All (λ l. (1 ≤ variable l) × (variable l ≤ variables T n))) (map (rename (number T))) (clauses T n)
-    (All-weaker (All (λ l. InRange T n (variable l))) _ (rename-in (number T) (InRange T n) (λ i. (1 ≤ i) × (i ≤ variables T n)) (number_in T n)) (clauses T n) (clauses-in T n))
+within T n = All-map (AllByRecursion (λ l. (1 ≤ variable l) × (variable l ≤ variables T n))) (map (rename (number T))) (clauses T n)
+    (All-weaker (AllByRecursion (λ l. InRange T n (variable l))) _ (rename-in (number T) (InRange T n) (λ i. (1 ≤ i) × (i ≤ variables T n)) (number_in T n)) (clauses T n) (clauses-in T n))
 
 pub local : Local
 unfolding plan_of

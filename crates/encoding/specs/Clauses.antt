@@ -2,7 +2,7 @@
 -- They are written over symbolic variables; `formula` is the same list over the variables' numbers.
 -- Assumes nothing.
 use Rattle.std.specs.Prelude.{◌≡◌, ℕ, zero, suc, ◌-◌, ◌*◌, Bool, true, false, cond, not, ◌&&◌, ◌||◌, List, [], ◌∷◌, ◌++◌, map, ℤ, pos, neg_ℤ, ◌==◌, nat_lt}
-use Rattle.std.specs.List.{AllByRecursion as All}
+use Rattle.std.specs.List.{AllByRecursion}
 use Rattle.encoding.specs.Ranges.{each, only}
 use Rattle.encoding.specs.Tables.{Table, events, owner, requires, relevant, harms}
 use Rattle.encoding.specs.Variables.{Var, X, O, Y, V, number}
@@ -28,7 +28,7 @@ clause_holds σ [] = false
 clause_holds σ (l ∷ c) = literal_holds σ l || clause_holds σ c
 
 abbrev pub Satisfies : {A : Type 0} → (A → Bool) → List (List (Literal A)) → Type 0
-Satisfies σ cs = All (λ c. clause_holds σ c ≡ true) cs
+Satisfies σ cs = AllByRecursion (λ c. clause_holds σ c ≡ true) cs
 
 -- 1. Start: the initial facts are true, the others false, and no action is open
 abbrev pub start_facts : Table → List Clause

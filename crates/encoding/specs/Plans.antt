@@ -1,7 +1,7 @@
 -- Plans: states of a cell, when an event runs and what it does, and which plans are valid.
 -- Assumes nothing.
 use Rattle.std.specs.Prelude.{◌≡◌, ℕ, ◌<◌, ◌≤◌, Bool, true, false, cond, not, ◌&&◌, ◌||◌, ◌≢◌, ◌⊎◌, List, [], ◌∷◌, ◌==◌}
-use Rattle.std.specs.List.{AllByRecursion as All}
+use Rattle.std.specs.List.{AllByRecursion}
 use Rattle.encoding.specs.Ranges.{Each}
 use Rattle.encoding.specs.Tables.{Table, events, owner, starts, requires}
 
@@ -56,7 +56,7 @@ Placed T n x = (1 ≤ x.0) × (x.0 ≤ n) × (1 ≤ x.1) × (x.1 ≤ events T)
 
 -- A valid plan of n steps
 pub record Valid (T : Table) (n : ℕ) (π : Plan) : Type 0 where
-  pub placed : All (Placed T n) π
+  pub placed : AllByRecursion (Placed T n) π
   pub rising : Rising π
   -- each event runs in turn, from the initial facts with no action open
   pub runs : Run T (initially T) π

@@ -1,7 +1,7 @@
 -- What the clauses mean: exactly the valid plans, each with exactly the values of its run.
 -- Assumes nothing.
 use Rattle.std.specs.Prelude.{◌≡◌, ℕ, suc, ◌+◌, ◌*◌, ◌≤◌, Bool, ◌≢◌, ◌↔◌, map, length, Some, None}
-use Rattle.std.specs.List.{AllByRecursion as All}
+use Rattle.std.specs.List.{AllByRecursion}
 use Rattle.encoding.specs.Ranges.{Each, up_to}
 use Rattle.encoding.specs.Tables.{Table}
 use Rattle.encoding.specs.Plans.{Plan, Valid}
@@ -26,7 +26,7 @@ Unique = (T : Table) (n : ℕ) (σ : ℕ → Bool) (π : Plan) → Satisfies σ 
 
 -- Each literal's variable is one of 1 .. N
 abbrev pub Within : Type 0
-Within = (T : Table) (n : ℕ) → All (All (λ l. (1 ≤ variable l) × (variable l ≤ variables T n))) (formula T n)
+Within = (T : Table) (n : ℕ) → AllByRecursion (AllByRecursion (λ l. (1 ≤ variable l) × (variable l ≤ variables T n))) (formula T n)
 
 -- So nothing but the values of 1 .. N matters to the clauses, nor to the plan that is said
 abbrev pub Local : Type 0
@@ -55,13 +55,13 @@ Small T = (T.facts ≤ fact_limit) × (T.actions ≤ action_limit)
 pub record Bounded : Type 0 where
   pub pairs_fit : (T : Table) → Small T → pairs T ≤ pair_limit
   pub variables_fit : (T : Table) (n : ℕ) → Small T → n ≤ step_limit → variables T n ≤ variable_limit
-  pub literals_fit : (T : Table) (n : ℕ) → Small T → n ≤ step_limit → All (All (λ l. (1 ≤ variable l) × (variable l ≤ literal_limit))) (formula T n)
+  pub literals_fit : (T : Table) (n : ℕ) → Small T → n ≤ step_limit → AllByRecursion (AllByRecursion (λ l. (1 ≤ variable l) × (variable l ≤ literal_limit))) (formula T n)
 
 -- The labelled list is the clause list with labels. No clause of it is false exactly when the clauses are satisfied;
 -- otherwise the first false one is found, with its place, family and step
 pub record Labels : Type 0 where
   pub same : (T : Table) (n : ℕ) → unlabelled (labelled T n) ≡ formula T n
-  pub lawful : (T : Table) (n : ℕ) → All (λ l. Label n l.family l.step) (labelled T n)
+  pub lawful : (T : Table) (n : ℕ) → AllByRecursion (λ l. Label n l.family l.step) (labelled T n)
   pub none : (T : Table) (n : ℕ) (σ : ℕ → Bool) → (first_false σ 1 (labelled T n) ≡ None) ↔ Satisfies σ (formula T n)
   pub first : (T : Table) (n : ℕ) (σ : ℕ → Bool) (k f t : ℕ) → (first_false σ 1 (labelled T n) ≡ Some (k, f, t)) ↔ FirstFalse σ (labelled T n) k f t
 
@@ -71,7 +71,7 @@ pub record Counted : Type 0 where
   pub two : (T : Table) (n : ℕ) → of_length 2 (formula T n) ≡ n * twos T
   pub three : (T : Table) (n : ℕ) → of_length 3 (formula T n) ≡ n * threes T
   pub others : (T : Table) (n k : ℕ) → k ≢ 1 → k ≢ 2 → k ≢ 3 → of_length k (formula T n) ≡ 0
-  pub lengths : (T : Table) (n : ℕ) → All (λ c. (1 ≤ length c) × (length c ≤ 3)) (formula T n)
+  pub lengths : (T : Table) (n : ℕ) → AllByRecursion (λ c. (1 ≤ length c) × (length c ≤ 3)) (formula T n)
   pub all : (T : Table) (n : ℕ) → length (formula T n) ≡ ones T + n * twos T + n * threes T
   -- so this is the price of the whole list, as signed numbers
   pub priced : (T : Table) (n : ℕ) (cost : ℕ → ℕ) → price cost (signed_formula T n) ≡ ones T * cost 1 + n * twos T * cost 2 + n * threes T * cost 3

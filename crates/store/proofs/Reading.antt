@@ -2,7 +2,7 @@
 use Rattle.std.proofs.lemmas.Bool.Decides.{nat_tests}
 use Rattle.std.proofs.Common.{◌≡◌, ℕ, zero, suc, ◌+◌, ◌-◌, ◌*◌, ◌/◌, ◌%◌, ◌^◌, ◌<◌, ◌≤◌, Bool, true, false, cond, eqb, ltb, List, [], ◌∷◌, ◌++◌, map, length, take, drop, replicate, ℤ, pos, negsuc, nat_abs, decimal, fold, sym, refl, ap, ◌∙◌, append_assoc, append-nil, mod-lt, div-add-mod', arith}
 use Rattle.std.specs.Fmt.{signed_decimal}
-use Rattle.std.specs.List.{flat_map, AllByRecursion as All}
+use Rattle.std.specs.List.{flat_map, AllByRecursion}
 use Rattle.std.proofs.lemmas.Fmt.{decimal_by_steps}
 use Rattle.std.proofs.ByRecursion.{All-append, All-push}
 use Rattle.std.proofs.lemmas.List.{take_at, drop_at, length-append, map-append}
@@ -99,7 +99,7 @@ unended-lines (c ∷ cs) =
 
 -- a column has no line feed
 abbrev Plain : List ℕ → Type 0
-Plain bs = All (λ b. eqb b 10 ≡ false) bs
+Plain bs = AllByRecursion (λ b. eqb b 10 ≡ false) bs
 
 plain-decimal : (n : ℕ) → n < 2 ^ 64 → Plain (decimal n)
 plain-decimal n h =

@@ -1,7 +1,7 @@
 -- A plan has no fault exactly if it is valid.
 -- Assumes nothing.
 use Rattle.std.proofs.Common.{◌≡◌, ℕ, zero, suc, ◌<◌, ◌≤◌, Bool, true, false, cond, not, ◌&&◌, ◌||◌, eqb, ltb, leb, ◌≢◌, [], ◌∷◌, length, get_or, Some, None, Option, sym, refl, ap, ◌∙◌, ap₂, inl, inr, arith}
-use Rattle.std.specs.List.{AllByRecursion as All}
+use Rattle.std.specs.List.{AllByRecursion}
 use Rattle.std.proofs.ByRecursion.{All-get_or}
 use Rattle.std.proofs.lemmas.Bool.{eqb-true, eqb-false, eq-eqb, ne_eqb, ltb-true, lt-ltb, le-leb, and_parts, and_from}
 use Rattle.refusal.specs.declared.causes.Obstacle.TheVariants.{RequiredFactFalse, ActionAlreadyOpen, ActionNotOpen, HeldFactDeleted}
@@ -163,7 +163,7 @@ passed : (b : Bool) (o : Option ℕ) (k : ℕ) → cond b o (Some k) ≡ None �
 passed true o k h = (refl, h)
 passed false o k h = absurd (let z : ◌≡◌ {A = ℕ} 0 1 = cc in omega arith)
 
-pub order-of : (T : Table) (n : ℕ) (before : ℕ × ℕ) (k : ℕ) (π : Plan) → misplaced T n before k π ≡ None → All (Placed T n) π × RisesFrom before π
+pub order-of : (T : Table) (n : ℕ) (before : ℕ × ℕ) (k : ℕ) (π : Plan) → misplaced T n before k π ≡ None → AllByRecursion (Placed T n) π × RisesFrom before π
 unfolding misplaced
 order-of T n before k [] h = (tt, tt)
 order-of T n before k (x ∷ π) h =
@@ -172,7 +172,7 @@ order-of T n before k (x ∷ π) h =
     let r = order-of T n x (suc k) π y.1 in
     ((placed_of T n x z.0, r.0), (before_of before x z.1, r.1))
 
-of-order : (T : Table) (n : ℕ) (before : ℕ × ℕ) (k : ℕ) (π : Plan) → All (Placed T n) π → RisesFrom before π → misplaced T n before k π ≡ None
+of-order : (T : Table) (n : ℕ) (before : ℕ × ℕ) (k : ℕ) (π : Plan) → AllByRecursion (Placed T n) π → RisesFrom before π → misplaced T n before k π ≡ None
 unfolding misplaced
 of-order T n before k [] p r = refl
 of-order T n before k (x ∷ π) p r =
@@ -183,7 +183,7 @@ rising-of : (π : Plan) → RisesFrom (0, 0) π → Rising π
 rising-of [] h = tt
 rising-of (x ∷ π) h = rising-from x π h.1
 
-of_rising : (T : Table) (n : ℕ) (π : Plan) → All (Placed T n) π → Rising π → RisesFrom (0, 0) π
+of_rising : (T : Table) (n : ℕ) (π : Plan) → AllByRecursion (Placed T n) π → Rising π → RisesFrom (0, 0) π
 of_rising T n [] p h = tt
 of_rising T n (x ∷ π) p h = (inl p.0.0, from-rising x π h)
 

@@ -1,7 +1,7 @@
 -- One step more at each turn; the start's clauses before them and the goal's after them.
 -- Assumes nothing.
 use Rattle.std.proofs.Common.{◌≡◌, ◌*◌, sym, ap, subst, arith}
-use Rattle.std.specs.List.{AllByRecursion as All}
+use Rattle.std.specs.List.{AllByRecursion}
 use Rattle.encoding.proofs.Ranges.{all_left, all_right}
 use Rattle.formula.specs.declared.template.Family.TheVariants.{Goal}
 use Rattle.formula.specs.Templates.{unrolled_steps}
@@ -11,8 +11,8 @@ use Rattle.encoder.proofs.Steps.{alone-more, alone-none, family-is, signs-whole,
 use Rattle.encoder.proofs.emission.put_list.Goals as goal
 
 pub put_all-requires : goal.put_all-requires
-put_all-requires g c = subst (All (All InLimits)) (sym (start_is c.args.template.now _ c.family.ensures))
-    (start-limits c.args.template.now c.args.n (all_left (All InLimits) (unrolled_steps c.args.template.now c.args.n) _ c.requires.limits))
+put_all-requires g c = subst (AllByRecursion (AllByRecursion InLimits)) (sym (start_is c.args.template.now _ c.family.ensures))
+    (start-limits c.args.template.now c.args.n (all_left (AllByRecursion InLimits) (unrolled_steps c.args.template.now c.args.n) _ c.requires.limits))
 
 pub loop-step-init : goal.loop-step-init
 loop-step-init g c = (
@@ -22,7 +22,7 @@ loop-step-init g c = (
 
 pub put_step-requires : goal.put_step-requires
 put_step-requires g c = record {
-  limits = step-limits c.args.template.now c.args.n c.loop-step.step c.loop-step-test.true (all_left (All InLimits) (unrolled_steps c.args.template.now c.args.n) _ c.requires.limits);
+  limits = step-limits c.args.template.now c.args.n c.loop-step.step c.loop-step-test.true (all_left (AllByRecursion InLimits) (unrolled_steps c.args.template.now c.args.n) _ c.requires.limits);
   size = c.requires.size;
   steps = omega (arith, c.requires.steps);
 }
@@ -34,8 +34,8 @@ loop-step-preserved g c = (
 )
 
 pub put_all-requires-2 : goal.put_all-requires-2
-put_all-requires-2 g c = subst (All (All InLimits)) (sym (family-is c.args.template.now Goal _ _ _ (ap (λ k. c.args.n * k) c.step_size.ensures) c.family-2.ensures))
-    (all_right (All InLimits) (unrolled_steps c.args.template.now c.args.n) _ c.requires.limits)
+put_all-requires-2 g c = subst (AllByRecursion (AllByRecursion InLimits)) (sym (family-is c.args.template.now Goal _ _ _ (ap (λ k. c.args.n * k) c.step_size.ensures) c.family-2.ensures))
+    (all_right (AllByRecursion InLimits) (unrolled_steps c.args.template.now c.args.n) _ c.requires.limits)
 
 pub returns : goal.returns
 returns g c =
