@@ -3,9 +3,9 @@
 
 The port to the toolchain named in README.md respelled the library's words; this script does the same for ours. It reads and
 rewrites crates/*/specs, crates/*/proofs, the clauses of crates/*/src and the must-fail and refused edits. A word such as
-`firstFalse`, alone or as a part of a name with dashes, becomes `first_false`. No function of src/ has such a name, so no code
-changes. The library's `AllByRecursion`, which the toolchain's script imports as `All`, gets its own name back, since `All` is another
-word of the library. A second run changes nothing.
+`firstFalse`, alone or as a part of a name with dashes, becomes `first_false`, and a field's dash an underscore; the names of lemmas
+keep their dashes. No function of src/ has such a name, so no code changes. The library's `AllByRecursion`, which the toolchain's
+script imports as `All`, gets its own name back, since `All` is another word of the library. A second run changes nothing.
 
   tools/respell.py           rewrites the files and says which words it turned
   tools/respell.py --check   only says which words it would turn, and which of them would fall together with another name
@@ -22,6 +22,11 @@ QUOTED = re.compile(r'"(?:[^"\\\n]|\\.)*"')
 # Words of the library that were renamed inside our lemmas' names; facts that were spelled as values, and a lemma whose name would
 # fall together with its definition's, each by file
 OTHER = {"getD": "get_or", "upTo": "up_to"}
+FIELDS = {
+    "crates/store/": {"same-lender": "same_lender", "used-more": "used_more"},
+    "crates/report/": {"text-is": "text_is", "line-is": "line_is"},
+    "crates/encode/": {"text-is": "text_is", "line-is": "line_is"},
+}
 NAMED = {
     "crates/encoder/proofs/Whole.antt": {"in_step": "in_step_lem"},
     "crates/encoding/proofs/Labelling.antt": {"fits": "IsFitting"},
@@ -52,6 +57,10 @@ def turned(path, text, count):
         count[m[0], new] += 1
         return new
 
+    for folder, fields in FIELDS.items():
+        for old, new in fields.items() if os.path.relpath(path, ROOT).startswith(folder) else ():
+            text, n = re.subn(rf"(?<![\w'-]){old}(?![\w'-])", new, text)
+            count[old, new] += n
     for old, new in NAMED.get(os.path.relpath(path, ROOT), {}).items():
         if re.search(rf"(?<![\w'.-]){new}(?![\w'-])", text):
             continue  # turned before

@@ -23,8 +23,8 @@ bytes_of (Refused line) = vec_items line
 -- An output that says that the program was granted what it was asked for, with this text, or was refused it
 pub record Grants (output : Output) (text : List ℕ) : Type 0 where
   pub granted : is_granted output ≡ true
-  pub text-is : bytes_of output ≡ text
+  pub text_is : bytes_of output ≡ text
 
 pub record Refuses (output : Output) (code : Code) : Type 0 where
   pub refused : is_granted output ≡ false
-  pub line-is : bytes_of output ≡ refusal_line code
+  pub line_is : bytes_of output ≡ refusal_line code

@@ -49,4 +49,4 @@ text-left s t d cs m n g h =
     let l : length s.bytes.now ≡ length d = ap length m ∙ length_over (shown_in (length d) []) d (shown-none-fits (length d)) in
     let a : take s.used s.bytes.now ≡ shown_in (length d) [] = s.shown ∙ ap (λ k. shown_in k (clauses_of (take s.used s.bytes.now))) l ∙ ap (shown_in (length d)) n in
     let f : take t.used t.bytes.now ≡ shown_in (length d) cs = t.shown ∙ ap (λ k. shown_in k (clauses_of (take t.used t.bytes.now))) (g.same_length ∙ l) ∙ ap (shown_in (length d)) h in
-    (f, over-grown s.used t.used s.bytes.now t.bytes.now d (shown_in (length d) []) (shown_in (length d) cs) (omega (arith, s.within)) a m g.used-more g.beyond (omega (arith, t.within)) f)
+    (f, over-grown s.used t.used s.bytes.now t.bytes.now d (shown_in (length d) []) (shown_in (length d) cs) (omega (arith, s.within)) a m g.used_more g.beyond (omega (arith, t.within)) f)

@@ -12,9 +12,9 @@ pub record Growth {X : Type 0} (grew : X → X → Type 0) : Type 0 where
 
 -- A store over lent memory: who lent it, what the memory holds, and how much of it is used
 pub record Grown {X E N : Type 0} (lender : X → N) (memory : X → List E) (used : X → ℕ) (s t : X) : Type 0 where
-  pub same-lender : lender t ≡ lender s
+  pub same_lender : lender t ≡ lender s
   pub same_length : length (memory t) ≡ length (memory s)
-  pub used-more : used s ≤ used t
+  pub used_more : used s ≤ used t
   pub beyond : drop (used t) (memory t) ≡ drop (used t) (memory s)
 
 -- Memory with a new front, and the rest as it was
@@ -29,11 +29,11 @@ drop-further m n xs ys h e =
 
 pub grown-growth : {X E N : Type 0} (lender : X → N) (memory : X → List E) (used : X → ℕ) → Growth (Grown lender memory used)
 grown-growth lender memory used = record {
-  none = λ s. record { same-lender = refl; same_length = refl; used-more = omega arith; beyond = refl };
+  none = λ s. record { same_lender = refl; same_length = refl; used_more = omega arith; beyond = refl };
   more = λ s t u a b. record {
-    same-lender = b.same-lender ∙ a.same-lender;
+    same_lender = b.same_lender ∙ a.same_lender;
     same_length = b.same_length ∙ a.same_length;
-    used-more = omega (arith, a.used-more, b.used-more);
-    beyond = b.beyond ∙ drop-further (used t) (used u) (memory t) (memory s) b.used-more a.beyond;
+    used_more = omega (arith, a.used_more, b.used_more);
+    beyond = b.beyond ∙ drop-further (used t) (used u) (memory t) (memory s) b.used_more a.beyond;
   };
 }

@@ -1,6 +1,6 @@
 -- The text of a list of clauses, in the DIMACS CNF form with columns of a fixed width: a header line, then a line for each clause.
--- A byte is its ASCII code: 32 is a blank, 48 the digit 0, 10 a line feed. `decimal` and `signed` of the standard library are
--- what `{n}` prints. Assumes nothing.
+-- A byte is its ASCII code: 32 is a blank, 48 the digit 0, 10 a line feed. `decimal` and `signed_decimal` of the standard
+-- library are what `{n}` prints. Assumes nothing.
 use Rattle.std.specs.Prelude.{ℕ, ◌+◌, ◌-◌, ◌*◌, min, max, cond, List, [], ◌∷◌, ◌++◌, length, replicate, ℤ, pos, codes, nat_lt, unsigned_abs}
 use Rattle.std.proofs.Common.{lit≤}
 use Rattle.std.specs.Fmt.{signed_decimal}

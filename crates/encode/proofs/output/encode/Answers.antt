@@ -20,7 +20,7 @@ returns-in_ok-text-in-Ok c =
     let w = c.in-Ok.ensures in
     let left = text-left c.new-store.result t (replicate {A = ℕ} store_size 32) (clauses_of (take t.used t.bytes.now)) n.memory n.empty w.grows refl in
     prints-text _ _ c.new-store.result t c.args.input.now free (Ok c.in-Ok.field-0) c.in-Ok.field-0 (Granted c.in_ok-text-in-Ok.text) refl n.empty w.written
-    (record { granted = refl; text-is = c.in_ok-text-in-Ok.ensures.items ∙ c.text.ensures ∙ sym t.shown ∙ left.0 ∙ shown-whole _ _ (length-replicate {A = ℕ} store_size 32) })
+    (record { granted = refl; text_is = c.in_ok-text-in-Ok.ensures.items ∙ c.text.ensures ∙ sym t.shown ∙ left.0 ∙ shown-whole _ _ (length-replicate {A = ℕ} store_size 32) })
 
 pub returns-in-Err : goal.returns-in-Err
 returns-in-Err c =

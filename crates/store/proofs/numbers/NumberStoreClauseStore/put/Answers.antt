@@ -40,9 +40,9 @@ returns c =
         units = omega (arith, k, w.same_length);
       };
       grows = record {
-        same-lender = ap (λ x. x.numbers.ghost_name) e;
+        same_lender = ap (λ x. x.numbers.ghost_name) e;
         same_length = w.same_length ∙ el;
-        used-more = omega arith;
+        used_more = omega arith;
         beyond = w.beyond ∙ ap (λ x. drop (o.used + (length cl + 1)) x.numbers.now) e;
       };
     }

@@ -51,9 +51,9 @@ returns c =
         units = omega (arith, u, c.free.ensures);
       };
       grows = record {
-        same-lender = ap (λ x. x.bytes.ghost_name) e;
+        same_lender = ap (λ x. x.bytes.ghost_name) e;
         same_length = w.same_length ∙ ap (λ x. length x.bytes.now) e;
-        used-more = omega (arith, ap (λ x. x.used) e);
+        used_more = omega (arith, ap (λ x. x.used) e);
         beyond = w.beyond ∙ ap (λ x. drop (o.used + (width * length cl + 3)) x.bytes.now) e;
       };
     }
