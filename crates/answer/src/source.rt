@@ -1,6 +1,6 @@
 //! What a source is, by its meaning.
 
-ghost use Rattle.std.specs.Prelude.{◌≡◌, ℕ, Bool, false, None as Nothing, Option as Maybe};
+ghost use Rattle.std.specs.Prelude.{◌≡◌, ℕ, Bool, false, None, Option};
 ghost use Rattle.answer.specs.Variables.{is_variable};
 
 /// Variables are numbered from 1 to this.
@@ -17,9 +17,9 @@ pub const LARGEST_VARIABLE: u32 = 99_999;
 /// so a `value` that answers from a cell cannot be proved. The same goes for what is read from a file. A cell that only counts the
 /// calls does no harm.
 pub trait AnswerSource {
-    ghost tells: { Self → ℕ → Maybe Bool };
+    ghost tells: { Self → ℕ → Option Bool };
 
-    ghost outside: { (s : Self) (v : ℕ) → is_variable v ≡ false → tells s v ≡ Nothing };
+    ghost outside: { (s : Self) (v : ℕ) → is_variable v ≡ false → tells s v ≡ None };
 
     /// The value of a variable. Asking changes nothing.
     fn value(&self, variable: u32) -> Option<bool>

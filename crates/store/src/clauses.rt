@@ -37,8 +37,8 @@ impl Fault for PutFault {
 /// A clause store. Its meaning is `held`, the clauses that it holds in the order in which they were put, and `units`, its free
 /// units. Each kind fixes a price of 1 to 64 units for a clause of one to four literals.
 pub trait ClauseStore {
-    /// The prices of clauses of one to four literals. A proof over every kind cannot read an associated constant: it reads
-    /// `price_list`, which returns these.
+    /// The prices of clauses of one to four literals. Code over every kind reads them by `price_list`, which returns these and is tied
+    /// to `prices`.
     const PRICE_1: usize;
 
     const PRICE_2: usize;
