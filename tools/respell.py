@@ -2,7 +2,7 @@
 """Respells the repository's own definitions and lemmas: words in snake case, facts in camel case.
 
 The port to the toolchain named in README.md respelled the library's words; this script does the same for ours. It reads and
-rewrites crates/*/specs, crates/*/proofs, the clauses of crates/*/src and the must-fail and refused edits. A word such as
+rewrites crates/*/specs, crates/*/proofs, crates/*/src and the must-fail and refused edits, but for quoted strings. A word such as
 `firstFalse`, alone or as a part of a name with dashes, becomes `first_false`, and a field's dash an underscore; the names of lemmas
 keep their dashes. No function of src/ has such a name, so no code changes. The library's `AllByRecursion`, which the toolchain's
 script imports as `All`, gets its own name back, since `All` is another word of the library. A second run changes nothing.
