@@ -30,7 +30,8 @@ pub fn emit<S: ClauseStore>(table: &Table, n: u32, store: &mut S) -> Result<usiz
 
 // The price of all the clauses is compared with the free units before the first is put.
 fn emit_in_limits<S: ClauseStore>(table: &Table, n: u32, store: &mut S) -> Result<usize, EmitFault>
-    requires { (1 ≤ n) × (n ≤ step_limit) }
+    requires some { 1 ≤ n }
+    requires few { n ≤ step_limit }
     ensures answer { result ≡ emit_answer (meant table.now) n S.ClauseStore.prices (S.ClauseStore.units store.old) }
     ensures after { Emitted S.ClauseStore.held S.ClauseStore.units S.ClauseStore.prices store.old store.new (meant table.now) n result }
     ensures grows { S.ClauseStore.grew store.old store.new }

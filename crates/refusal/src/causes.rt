@@ -134,13 +134,19 @@ impl Refusal {
 }
 
 fn plain(number: u32) -> Code
-    ensures { (result.number ≡ number) × ((result.first ≡ 0) × ((result.second ≡ 0) × (result.third ≡ 0))) }
+    ensures number { result.number ≡ number }
+    ensures first { result.first ≡ 0 }
+    ensures second { result.second ≡ 0 }
+    ensures third { result.third ≡ 0 }
 {
     figures(number, 0, 0, 0)
 }
 
 fn figures(number: u32, first: u128, second: u128, third: u128) -> Code
-    ensures { (result.number ≡ number) × ((result.first ≡ first) × ((result.second ≡ second) × (result.third ≡ third))) }
+    ensures number { result.number ≡ number }
+    ensures first { result.first ≡ first }
+    ensures second { result.second ≡ second }
+    ensures third { result.third ≡ third }
 {
     Code {
         number,

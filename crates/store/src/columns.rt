@@ -45,14 +45,16 @@ fn write_number(column: &mut [u8], n: usize, negative: bool)
 }
 
 fn write_literal(column: &mut [u8], z: i32)
-    requires { (length column.old ≡ width) × (is_literal z ≡ true) }
+    requires whole { length column.old ≡ width }
+    requires lawful { is_literal z ≡ true }
     ensures { column.new ≡ column_of width z }
 {
     write_number(column, z.unsigned_abs() as usize, z < 0);
 }
 
 fn write_count(column: &mut [u8], n: usize)
-    requires { (length column.old ≡ width) × (n < 10 ^ width) }
+    requires whole { length column.old ≡ width }
+    requires fits { n < 10 ^ width }
     ensures { column.new ≡ column_of width (pos n) }
 {
     write_number(column, n, false);
@@ -60,7 +62,8 @@ fn write_count(column: &mut [u8], n: usize)
 
 /// Writes the clause's line.
 fn write_line(line: &mut [u8], clause: &[i32])
-    requires { (length line.old ≡ width * length clause.now + 3) × (all_literals clause.now ≡ true) }
+    requires whole { length line.old ≡ width * length clause.now + 3 }
+    requires lawful { all_literals clause.now ≡ true }
     ensures { line.new ≡ line_of width clause.now }
 {
     for (i, z) in clause.iter().enumerate() {
@@ -73,7 +76,9 @@ fn write_line(line: &mut [u8], clause: &[i32])
 
 /// Writes the header.
 pub fn write_header(header: &mut [u8], largest: usize, count: usize)
-    requires { (length header.old ≡ header_length) × ((largest < 10 ^ width) × (count < 10 ^ width)) }
+    requires whole { length header.old ≡ header_length }
+    requires largest { largest < 10 ^ width }
+    requires count { count < 10 ^ width }
     ensures { header.new ≡ header_of width largest count }
 {
     header[0..5].copy_from_slice(b"p cnf");
@@ -84,7 +89,11 @@ pub fn write_header(header: &mut [u8], largest: usize, count: usize)
 
 /// Writes the clause's line at `start`, and the header anew. The other bytes stay.
 pub fn write_clause(bytes: &mut [u8], start: usize, clause: &[i32], largest: usize, count: usize)
-    requires { (header_length ≤ start) × ((start + (width * length clause.now + 3) ≤ length bytes.old) × ((all_literals clause.now ≡ true) × ((largest < 10 ^ width) × (count < 10 ^ width)))) }
+    requires behind { header_length ≤ start }
+    requires room { start + (width * length clause.now + 3) ≤ length bytes.old }
+    requires lawful { all_literals clause.now ≡ true }
+    requires largest { largest < 10 ^ width }
+    requires count { count < 10 ^ width }
     ensures { bytes.new ≡ rewritten bytes.old start clause.now largest count }
 {
     let end = start + WIDTH * clause.len() + LINE_END;

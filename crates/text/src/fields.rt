@@ -29,7 +29,8 @@ fn zero(i: usize) -> Result<Column, usize>
 
 // What the columns hold with `b` in column `i`; or `i`, if no number has this byte there.
 fn digit(at: Column, i: usize, b: u8) -> Result<Column, usize>
-    requires { (i < 4) × (Within i at) }
+    requires place { i < 4 }
+    requires within { Within i at }
     ensures { result ≡ column i at b }
 {
     match (at, b) {

@@ -63,7 +63,8 @@ fn names_action(role: Role) -> bool
 impl<'a> Reader<'a> {
     /// Nothing is read yet.
     pub(crate) fn new(text: &'a [u8]) -> Reader<'a>
-        ensures { (result.left.now ≡ text.now) × (result.at ≡ 0) }
+        ensures left { result.left.now ≡ text.now }
+        ensures at { result.at ≡ 0 }
     {
         Reader { left: text, at: 0 }
     }

@@ -20,7 +20,7 @@ returns-then-free-price g c =
     let h = c.of-template.ensures.families in
     let p = price-is T c.args.n S.prices _ _ _ _ (c.of-counts.ensures.ones ∙ ones-are T _ h) (c.of-counts.ensures.twos ∙ twos-are T _ h) (c.of-counts.ensures.threes ∙ threes-are T _ h) c.price.ensures in
     record {
-      answer = answer-dear T c.args.n S.prices (S.units c.args.store.now) c.requires.0 c.requires.1 (omega (arith, c.if-free-price.true, c.free.ensures));
+      answer = answer-dear T c.args.n S.prices (S.units c.args.store.now) c.requires.some c.requires.few (omega (arith, c.if-free-price.true, c.free.ensures));
       after = refl;
       grows = S.growth.none c.args.store.now;
     }
@@ -29,7 +29,7 @@ pub put_list-requires : goal.put_list-requires
 put_list-requires g c =
     let T = meant c.args.table.now in
     let s : Small T = (c.args.table.now.sizes.1, c.args.table.now.sizes.3) in
-    record { limits = limits T _ c.of-template.ensures.families c.args.n s c.requires.1; size = size_small T _ c.of-template.ensures.families s; steps = c.requires.1 }
+    record { limits = limits T _ c.of-template.ensures.families c.args.n s c.requires.few; size = size_small T _ c.of-template.ensures.families s; steps = c.requires.few }
 
 pub returns : goal.returns
 returns g c =
@@ -42,7 +42,7 @@ returns g c =
     let p = price-is T c.args.n S.prices _ _ _ _ a b d c.price.ensures in
     let room : price_of S.prices (signed_formula T c.args.n) ≤ S.units c.args.store.now = omega (arith, c.if-free-price.false, c.free.ensures) in
     record {
-      answer = answer-count T c.args.n S.prices (S.units c.args.store.now) _ c.requires.0 c.requires.1 room (length-is T c.args.n _ _ _ _ a b d c.clauses.ensures);
+      answer = answer-count T c.args.n S.prices (S.units c.args.store.now) _ c.requires.some c.requires.few room (length-is T c.args.n _ _ _ _ a b d c.clauses.ensures);
       after = subst (Adds S.held S.units S.prices c.args.store.now c.put_list.new.store) (list-is T _ h c.args.n) c.put_list.ensures.puts room;
       grows = c.put_list.ensures.grows;
     }

@@ -5,4 +5,4 @@ use Rattle.store.proofs.columns.write_clause.Goals as goal
 
 pub returns : goal.returns
 returns c =
-    line-and-header c.args.bytes.now c.write_line.new.line c.write_header.new.header c.args.start _ c.args.largest c.args.count c.args.clause.now c.requires.1.1.0 c.requires.0 c.requires.1.0 (omega arith) c.write_line.ensures c.write_header.ensures
+    line-and-header c.args.bytes.now c.write_line.new.line c.write_header.new.header c.args.start _ c.args.largest c.args.count c.args.clause.now c.requires.lawful c.requires.behind c.requires.room (omega arith) c.write_line.ensures c.write_header.ensures

@@ -7,8 +7,8 @@ use Rattle.store.proofs.columns.write_count.Goals as goal
 pub write_number-requires : goal.write_number-requires
 write_number-requires c =
     let l : length (decimal c.args.n) ≤ width = length-decimal-le width c.args.n (omega arith) (omega arith) c.ranges.n.fits in
-    omega (arith, c.requires.0)
+    omega (arith, c.requires.whole)
 
 pub returns : goal.returns
 unfolding field
-returns c = c.write_number.ensures ∙ ap (λ w. justified w (decimal c.args.n)) c.requires.0
+returns c = c.write_number.ensures ∙ ap (λ w. justified w (decimal c.args.n)) c.requires.whole

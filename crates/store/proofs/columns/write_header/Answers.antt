@@ -14,8 +14,8 @@ returns c =
     let w : List ℕ = codes "p cnf" in
     let v = field width (pos c.args.largest) in
     let n = field width (pos c.args.count) in
-    let lv : length v ≡ width = length-count c.args.largest c.requires.1.0 in
-    let ln : length n ≡ width = length-count c.args.count c.requires.1.1 in
+    let lv : length v ≡ width = length-count c.args.largest c.requires.largest in
+    let ln : length n ≡ width = length-count c.args.count c.requires.count in
     let e₁ : put_mid 0 5 b c.copy_from_slice.new.self ≡ paste b 0 w 5 = paste-part b b c.copy_from_slice.new.self [] w 0 5 refl refl (paste_none b 0 []) c.copy_from_slice.ensures.after in
     let e₂ : put_mid 5 7 (put_mid 0 5 b c.copy_from_slice.new.self) c.write_count.new.column ≡ paste b 0 (w ++ v) 12 = paste-part b _ c.write_count.new.column w v 5 7 refl (sym lv) e₁ c.write_count.ensures in
     let l₂ : 12 ≡ length (w ++ v) = omega (arith, lv) in
@@ -23,6 +23,6 @@ returns c =
     let l₃ : 19 ≡ length ((w ++ v) ++ n) = omega (arith, length-append (w ++ v) n, ln) in
     let k : 19 < length (put_mid 12 7 (put_mid 5 7 (put_mid 0 5 b c.copy_from_slice.new.self) c.write_count.new.column) c.write_count-2.new.column) = search rules in
     paste-byte b _ ((w ++ v) ++ n) 19 10 l₃ k e₃
-    ∙ paste-whole b (((w ++ v) ++ n) ++ 10 ∷ []) 20 (omega (arith, length_push ((w ++ v) ++ n) 10)) c.requires.0
+    ∙ paste-whole b (((w ++ v) ++ n) ++ 10 ∷ []) 20 (omega (arith, length_push ((w ++ v) ++ n) 10)) c.requires.whole
     ∙ append_assoc (w ++ v) n (10 ∷ [])
     ∙ append_assoc w v (n ++ 10 ∷ [])

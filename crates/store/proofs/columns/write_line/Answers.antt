@@ -12,19 +12,20 @@ write_literal-requires c =
     let cl = c.args.clause.now in
     let i = c.loop-i.i in
     let b = c.loop-i.line in
-    let f : SFits w32 (get_or cl i (pos 0)) = search rules in (
-      omega (arith, length-take (width * i + width - width * i) (drop (width * i) b), length-drop (width * i) b, c.loop-i.auto.line, c.requires.0),
-      ap is_literal (to_z-of_z w32 _ f) ∙ literal-at cl i c.requires.1 c.loop-i-test.true,
-    )
+    let f : SFits w32 (get_or cl i (pos 0)) = search rules in
+    record {
+      whole = omega (arith, length-take (width * i + width - width * i) (drop (width * i) b), length-drop (width * i) b, c.loop-i.auto.line, c.requires.whole);
+      lawful = ap is_literal (to_z-of_z w32 _ f) ∙ literal-at cl i c.requires.lawful c.loop-i-test.true;
+    }
 
 pub loop-i-preserved : goal.loop-i-preserved
 loop-i-preserved c =
     let cl = c.args.clause.now in
     let i = c.loop-i.i in
     let f : SFits w32 (get_or cl i (pos 0)) = search rules in
-    let l : width * i ≤ length c.loop-i.line = omega (arith, c.loop-i.auto.line, c.requires.0) in
-    fields-more c.loop-i.line c.write_literal.new.column _ i cl _ c.loop-i-test.true (to_z-of_z w32 _ f) (ap is_literal (to_z-of_z w32 _ f) ∙ literal-at cl i c.requires.1 c.loop-i-test.true) l c.write_literal.ensures c.loop-i.invariant
+    let l : width * i ≤ length c.loop-i.line = omega (arith, c.loop-i.auto.line, c.requires.whole) in
+    fields-more c.loop-i.line c.write_literal.new.column _ i cl _ c.loop-i-test.true (to_z-of_z w32 _ f) (ap is_literal (to_z-of_z w32 _ f) ∙ literal-at cl i c.requires.lawful c.loop-i-test.true) l c.write_literal.ensures c.loop-i.invariant
 
 pub returns : goal.returns
 returns c =
-    line-ends c.loop-i.line c.copy_from_slice.new.self _ c.loop-i.i c.args.clause.now (omega arith) (c.loop-i.auto.line ∙ c.requires.0) (omega arith) c.copy_from_slice.ensures.after c.loop-i.invariant
+    line-ends c.loop-i.line c.copy_from_slice.new.self _ c.loop-i.i c.args.clause.now (omega arith) (c.loop-i.auto.line ∙ c.requires.whole) (omega arith) c.copy_from_slice.ensures.after c.loop-i.invariant

@@ -18,7 +18,7 @@ write_clause-requires c =
     let k : width * length c.args.clause.now + 3 ≤ c.free.result = omega (arith, c.if-free-price.false) in
     let m : c.max-largest.result ≡ max o.largest c.largest_of.result = search rules in
     let q = put-requires o c.args.clause.now c.free.result c.largest_of.result c.max-largest.result (sym c.if-not-is_clause.ensures) r k c.largest_of.ensures m in
-    (q.0, (q.1, (q.2, (q.3, q.4))))
+    record { behind = q.0; room = q.1; lawful = q.2; largest = q.3; count = q.4 }
 
 pub invariant_of-self : goal.invariant_of-self
 invariant_of-self c =
