@@ -1,7 +1,8 @@
 //! Standard input and output, for the `main` of a program. No contract can say what is read or written: of that nothing is proved.
 
-ghost use Rattle.std.specs.Prelude.{◌≡◌, true, OnOk};
-ghost use Rattle.report.specs.Outputs.{is_granted};
+ghost use Rattle.std.specs.Prelude.{◌≡◌};
+ghost use Rattle.report.specs.Endings.{Ends, HasFailed};
+ghost use Rattle.report.specs.declared.console.Stop.TheVariants.{Failed};
 
 use crate::outputs::{LONGEST_INPUT, Output};
 use std::alloc::AllocError;
@@ -16,12 +17,16 @@ pub enum Stop {
 }
 
 impl From<io::Error> for Stop {
+    ghost from_gives = { λ e r. r ≡ Failed e };
+
     fn from(error: io::Error) -> Stop {
         Stop::Failed(error)
     }
 }
 
 impl From<AllocError> for Stop {
+    ghost from_gives = { λ e r. HasFailed r };
+
     fn from(error: AllocError) -> Stop {
         Stop::Failed(error.into())
     }
@@ -36,9 +41,10 @@ pub fn read_input(rt: &HostRuntime) -> io::Result<Vec<u8>> {
     Ok(bytes)
 }
 
-/// Writes the output to standard output. A refusal is an `Err`, so that a `main` that returns it ends with status 1.
+/// Writes the output to standard output. A refusal, and no granted output, is an `Err(Stop::Refused)`, so that a `main` that returns it
+/// ends with status 1.
 pub fn print_output(rt: &HostRuntime, output: &Output) -> Result<(), Stop>
-    ensures { OnOk result (is_granted output.now ≡ true) }
+    ensures { Ends output.now result }
 {
     rt.stdout().write_all(output.bytes())?;
     match output {
