@@ -17,14 +17,13 @@ impl<'a> ListSource<'a> {
     fn first_naming(&self, variable: u32) -> Option<usize>
         ensures { FirstNames variable self.now.entries.now result }
     {
-        let mut first = None;
+        // A rule of the project: the entries are looped over with their places, and left at the first that is v or minus v.
         for (i, entry) in self.entries.iter().enumerate() {
             if entry.unsigned_abs() == variable {
-                first = Some(i);
-                break;
+                return Some(i);
             }
         }
-        first
+        None
     }
 
     /// What the sign of that entry tells.

@@ -19,9 +19,9 @@ impl<'a> AnswerSource for MapSource<'a> {
         if !is_variable(variable) {
             return None;
         }
-        match self.bytes.get(variable as usize - 1) {
-            Some(1) => Some(false),
-            Some(2) => Some(true),
+        match self.bytes.get(variable as usize - 1)? {
+            1 => Some(false),
+            2 => Some(true),
             _ => None,
         }
     }

@@ -8,10 +8,11 @@ use super::AnswerSource;
 pub fn lowest_missing<S: AnswerSource>(source: &S, variables: u32) -> Option<u32>
     ensures { Lowest (S.AnswerSource.tells source.now) variables result }
 {
+    // A loop: of `find` over `1..=variables` it stays open which numbers the range gave.
     for variable in 1..=variables {
-        let Some(_) = source.value(variable) else {
+        if source.value(variable).is_none() {
             return Some(variable);
-        };
+        }
     }
     None
 }

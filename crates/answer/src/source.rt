@@ -30,5 +30,5 @@ pub trait AnswerSource {
 pub fn is_variable(number: u32) -> bool
     ensures { result ≡ is_variable number }
 {
-    1 <= number && number <= LARGEST_VARIABLE
+    (1..=LARGEST_VARIABLE).contains(&number)
 }

@@ -4,11 +4,10 @@
 
 mod output;
 
-use output::encode;
-use report::{Stop, print_output, read_input};
+use output::run;
+use report::{Stop, read_input};
 
 fn main(rt: HostRuntime) -> Result<(), Stop> {
     let input = read_input(&rt)?;
-    let output = encode(rt.alloc(), input.as_slice())?;
-    print_output(&rt, &output)
+    run(&mut rt.stdout(), rt.alloc(), input.as_slice())
 }

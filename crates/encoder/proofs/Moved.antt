@@ -12,8 +12,9 @@ use Rattle.formula.specs.declared.clauses.Clause.{Clause}
 use Rattle.formula.specs.declared.clauses.Clause.TheVariants.{Three}
 use Rattle.formula.specs.declared.clauses.Literal.{Literal as Written}
 use Rattle.formula.specs.Listings.{lit, lits}
-use Rattle.formula.specs.Templates.{shifted}
-use Rattle.encoder.specs.Puts.{InLimits, moved, signs}
+use Rattle.formula.specs.Listings.{shifted}
+use Rattle.formula.specs.Listings.{InLimits}
+use Rattle.encoder.specs.Puts.{moved, signs}
 
 pub literal-lawful : (l : Literal ℕ) → InLimits l → is_literal (signed l) ≡ true
 literal-lawful (is v) h = literal-pos v (omega arith) (omega arith)

@@ -1,8 +1,7 @@
 -- The whole list: its limits, its counts and its price, from the template of its table.
 -- Assumes nothing.
-use Rattle.std.proofs.Common.{◌≡◌, ℕ, ◌+◌, ◌*◌, ◌<◌, ◌≤◌, cond, eqb, List, [], ◌∷◌, ◌++◌, map, length, ℤ, Ok, Err, Result, sym, refl, ap, ◌∙◌, subst, ap₂, arith}
+use Rattle.std.proofs.Common.{◌≡◌, ℕ, ◌+◌, ◌*◌, ◌<◌, ◌≤◌, cond, eqb, List, [], ◌∷◌, ◌++◌, map, length, ℤ, Ok, Err, Result, sym, refl, ap, ◌∙◌, ap₂, arith}
 use lib.ListN.{length-map}
-use Rattle.std.specs.List.{AllByRecursion}
 use Rattle.std.proofs.lemmas.List.Sums.{sum_by-append, sum_by-cons}
 use Rattle.std.proofs.lemmas.Bool.Decides.{nat_tests}
 use Rattle.encoding.specs.Clauses.{agenda, formula, goal, kept, rename, signed, signed_formula, start, step, truth}
@@ -10,42 +9,23 @@ use Rattle.encoding.specs.Counts.{of_length, ones, price, threes, twos}
 use Rattle.encoding.specs.Limits.{step_limit}
 use Rattle.encoding.specs.Ranges.{count}
 use Rattle.encoding.specs.Tables.{Table}
-use Rattle.encoding.specs.Theorem.{Small}
-use Rattle.encoding.specs.Variables.{number, step_size}
-use Rattle.encoding.proofs.Bounds.{bounded}
+use Rattle.encoding.specs.Variables.{number}
 use Rattle.encoding.proofs.Counting.{counted, price-map, tally-goal, tally-start, tally-step}
 use Rattle.store.specs.Clauses.{Prices, cost, price_of}
 use Rattle.formula.specs.declared.template.Family.TheVariants.{Start, Goal}
 use Rattle.formula.specs.declared.template.Template.{Template}
 use Rattle.formula.specs.Templates.{Templated, said, unrolled}
-use Rattle.formula.proofs.Bounds.{agenda-length, goal-length, kept-length, start-length, truth-length}
 use Rattle.formula.proofs.Unrolling.{unrolled-is}
 use Rattle.encoder.specs.declared.faults.EmitFault.{EmitFault}
 use Rattle.encoder.specs.declared.faults.EmitFault.TheVariants.{PriceExceedsFree}
 use Rattle.encoder.specs.Emission.{emit_answer}
-use Rattle.encoder.specs.Puts.{Few, InLimits, in_step, signs}
+use Rattle.encoder.specs.Puts.{in_step, signs}
 
 price-of : (p : Prices) (cs : List (List ℤ)) → price_of p cs ≡ price (cost p) cs
 price-of p [] = refl
 price-of p (c ∷ cs) = ap (λ n. cost p (length c) + n) (price-of p cs) ∙ sym (sum_by-cons (λ c. cost p (length c)) c cs)
 
 module _ (T : Table) (t : Template) (h : Templated T t) where
-  pub few : Small T → Few t
-  few s = record {
-    start = rw length-map at (subst (λ cs. length cs ≤ 48) (sym h.start) (start-length T s));
-    agenda = rw length-map at (subst (λ cs. length cs ≤ 96) (sym h.agenda) (agenda-length T s));
-    kept = rw length-map at (subst (λ cs. length cs ≤ 512) (sym h.kept) (kept-length T s));
-    truth = rw length-map at (subst (λ cs. length cs ≤ 4160) (sym h.truth) (truth-length T s));
-    goal = rw length-map at (subst (λ cs. length cs ≤ 48) (sym h.goal) (goal-length T s));
-  }
-
-  pub size_small : Small T → t.step_size ≤ 1104
-  unfolding step_size
-  size_small s = let p = bounded.pairs_fit T s in omega (arith, h.size, s.0, s.1)
-
-  pub limits : (n : ℕ) → Small T → n ≤ step_limit → AllByRecursion (AllByRecursion InLimits) (unrolled t n)
-  limits n s l = subst (AllByRecursion (AllByRecursion InLimits)) (sym (unrolled-is T t h n)) (bounded.literals_fit T n s l)
-
   pub list-is : (n : ℕ) → signs (unrolled t n) ≡ signed_formula T n
   list-is n = ap signs (unrolled-is T t h n)
 

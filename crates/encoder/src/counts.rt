@@ -1,14 +1,13 @@
 //! How many clauses of each length a template has, and what they cost.
 
 ghost use Rattle.std.specs.Prelude.{◌≡◌, ◌+◌, ◌*◌, ◌≤◌, map, length};
-ghost use Rattle.encoder.specs.Puts.{Few, in_step};
+ghost use Rattle.encoder.specs.Puts.{in_step};
 ghost use Rattle.encoding.specs.Counts.{of_length};
-ghost use Rattle.encoding.specs.Limits.{step_limit};
 ghost use Rattle.formula.specs.Listings.{lits};
 ghost use Rattle.formula.specs.Templates.{said};
 ghost use Rattle.formula.specs.declared.template.Family.TheVariants.{Start, Goal};
 
-use formula::{Clause, Family, Template};
+use formula::{Clause, Family, Steps, Template};
 use store::ClauseStore;
 
 /// The clauses of one literal, in start and goal together, and those of two and of three in each step. There are no others.
@@ -22,7 +21,6 @@ pub(crate) struct Counts {
 
 impl Counts {
     pub(crate) fn of(template: &Template) -> Counts
-        requires { Few template.now }
         ensures ones { result.ones ≡ of_length 1 (said template.now Start) + of_length 1 (said template.now Goal) }
         ensures twos { result.twos ≡ in_step template.now 2 }
         ensures threes { result.threes ≡ in_step template.now 3 }
@@ -37,20 +35,18 @@ impl Counts {
     }
 
     /// How many clauses n steps have.
-    pub(crate) fn clauses(&self, n: u32) -> usize
-        requires { n ≤ step_limit }
-        ensures { result ≡ self.now.ones + n * self.now.twos + n * self.now.threes }
+    pub(crate) fn clauses(&self, steps: Steps) -> usize
+        ensures { result ≡ self.now.ones + steps.count * self.now.twos + steps.count * self.now.threes }
     {
-        let n = n as usize;
+        let n = steps.count as usize;
         self.ones + n * self.twos + n * self.threes
     }
 
     /// What the clauses of n steps cost in a store of this kind.
-    pub(crate) fn price<S: ClauseStore>(&self, n: u32) -> usize
-        requires { n ≤ step_limit }
-        ensures { result ≡ self.now.ones * S.ClauseStore.prices.one + n * self.now.twos * S.ClauseStore.prices.two + n * self.now.threes * S.ClauseStore.prices.three }
+    pub(crate) fn price<S: ClauseStore>(&self, steps: Steps) -> usize
+        ensures { result ≡ self.now.ones * S.ClauseStore.prices.one + steps.count * self.now.twos * S.ClauseStore.prices.two + steps.count * self.now.threes * S.ClauseStore.prices.three }
     {
-        let n = n as usize;
+        let n = steps.count as usize;
         let [one, two, three, _] = S::price_list();
         self.ones * one + n * self.twos * two + n * self.threes * three
     }
@@ -58,7 +54,6 @@ impl Counts {
 
 // How many clauses of k literals a step has.
 fn in_step(template: &Template, k: usize) -> usize
-    requires { Few template.now }
     ensures count { result ≡ in_step template.now k }
     ensures few { result ≤ 4768 }
 {
@@ -72,13 +67,10 @@ fn of_length(clauses: &[Clause], k: usize) -> usize
     ensures count { result ≡ of_length k (map lits clauses.now) }
     ensures few { result ≤ length clauses.now }
 {
-    let mut count = 0;
-    for clause in clauses {
-        if literals(*clause) == k {
-            count += 1;
-        }
-    }
-    count
+    clauses
+        .iter()
+        .filter(|clause| literals(**clause) == k)
+        .count()
 }
 
 // How many literals the clause has.

@@ -2,7 +2,9 @@
 
 ghost use Rattle.std.specs.Prelude.{◌≡◌};
 ghost use Rattle.encoder.specs.Faults.{emit_refusal};
+ghost use Rattle.encoder.specs.declared.faults.EmitFault.TheVariants.{StepsOutOfLimits as TooManyOrNone};
 
+use formula::StepsOutOfLimits;
 use refusal::{Fault, Refusal};
 
 /// The first is checked before the second.
@@ -22,6 +24,14 @@ impl Fault for EmitFault {
             EmitFault::StepsOutOfLimits => Refusal::StepsOutOfLimits,
             EmitFault::PriceExceedsFree => Refusal::PriceExceedsFree,
         }
+    }
+}
+
+impl From<StepsOutOfLimits> for EmitFault {
+    ghost from_gives = { λ e r. r ≡ TooManyOrNone };
+
+    fn from(_e: StepsOutOfLimits) -> EmitFault {
+        EmitFault::StepsOutOfLimits
     }
 }
 

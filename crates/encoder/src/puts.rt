@@ -1,10 +1,9 @@
 //! Clauses of a template, put into a store with a number added to each variable.
 
 ghost use Rattle.std.specs.Prelude.{◌≡◌, ◌+◌, true, [], ◌∷◌, map};
-ghost use Rattle.encoder.specs.Puts.{Adds, InLimits, moved, signs};
+ghost use Rattle.encoder.specs.Puts.{Adds, moved, signs};
 ghost use Rattle.encoding.specs.Clauses.{rename, signed as signed_of};
-ghost use Rattle.formula.specs.Listings.{lit, lits};
-ghost use Rattle.formula.specs.Templates.{shifted};
+ghost use Rattle.formula.specs.Listings.{InLimits, lit, lits, shifted};
 ghost use Rattle.std.specs.List.{AllByRecursion};
 ghost use Rattle.store.specs.Clauses.{is_clause};
 

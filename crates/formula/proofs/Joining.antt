@@ -1,6 +1,6 @@
 -- How listings grow: nothing, one part more, one more of a range.
 -- Assumes nothing.
-use Rattle.std.proofs.Common.{◌≡◌, ℕ, ◌+◌, ◌<◌, ◌≤◌, List, [], ◌∷◌, ◌++◌, map, length, get_or, take, set, sym, ap, ◌∙◌, subst, append_assoc, append-nil, arith, length-append}
+use Rattle.std.proofs.Common.{◌≡◌, ℕ, ◌+◌, ◌-◌, ◌<◌, ◌≤◌, List, [], ◌∷◌, ◌++◌, map, length, get_or, take, set, sym, ap, ◌∙◌, subst, append_assoc, append-nil, arith, length-append}
 use Rattle.std.proofs.lemmas.List.{map-append, take_all, take_more, take_more_set}
 use Rattle.encoding.specs.Clauses.{Literal}
 use Rattle.encoding.specs.Ranges.{each}
@@ -41,13 +41,15 @@ module _ {N : ℕ} where
   pub joined-all : (s t : Listing N) (cs : List Clause) (i : ℕ) → length cs ≤ i → Joined s t (map lits (take i cs)) → Joined s t (map lits cs)
   joined-all s t cs i l a = subst (λ xs. Joined s t (map lits xs)) (take_all i cs l) a
 
-  -- one more of a range, by what it is equal to
-  pub joined-next : (s t u : Listing N) (i : ℕ) (f : ℕ → List (List (Literal ℕ))) (g : List (List (Literal ℕ))) → Joined s t (each i f) → Joined t u g → g ≡ f (i + 1) → Joined s u (each (i + 1) f)
-  joined-next s t u i f g a b e = joined-each s t u i f a (subst (Joined t u) e b)
+  -- one more of a range, by what it is equal to: k is how far it then goes
+  pub joined-next : (s t u : Listing N) (i k : ℕ) (f : ℕ → List (List (Literal ℕ))) (g : List (List (Literal ℕ))) → 1 ≤ i → k ≡ i → Joined s t (each (i - 1) f) → Joined t u g → g ≡ f i → Joined s u (each k f)
+  joined-next s t u i k f g l h a b e =
+      let m : i - 1 + 1 ≡ i = omega arith in
+      subst (λ j. Joined s u (each j f)) (m ∙ sym h) (joined-each s t u (i - 1) f a (subst (Joined t u) (e ∙ ap f (sym m)) b))
 
-  -- and the whole range
-  pub joined-range : (s t : Listing N) (i n : ℕ) (f : ℕ → List (List (Literal ℕ))) (cs : List (List (Literal ℕ))) → Joined s t (each i f) → i ≡ n → cs ≡ each n f → Joined s t cs
-  joined-range s t i n f cs a e h = subst (Joined s t) (ap (λ k. each k f) e ∙ sym h) a
+  -- and the last of it
+  pub joined-last : (s t u : Listing N) (i n : ℕ) (f : ℕ → List (List (Literal ℕ))) (g cs : List (List (Literal ℕ))) → 1 ≤ i → n ≡ i → Joined s t (each (i - 1) f) → Joined t u g → g ≡ f i → cs ≡ each n f → Joined s u cs
+  joined-last s t u i n f g cs l h a b e d = subst (Joined s u) (sym d) (joined-next s t u i n f g l h a b e)
 
   -- two parts, by what they are together
   pub joined-two : (s t u : Listing N) (cs ds es : List (List (Literal ℕ))) → Joined s t cs → Joined t u ds → cs ++ ds ≡ es → Joined s u es

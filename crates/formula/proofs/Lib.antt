@@ -3,4 +3,5 @@ pub mod Bounds
 pub mod Numbers
 pub mod Equal
 pub mod Ranges
+pub mod Lawful
 pub mod Unrolling

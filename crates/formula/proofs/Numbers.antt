@@ -1,6 +1,6 @@
 -- The numbers of the first variables, and the truth clauses over them.
 -- Assumes nothing.
-use Rattle.std.proofs.Common.{◌≡◌, ℕ, ◌+◌, sym, subst, zero-mul, add-one, arith}
+use Rattle.std.proofs.Common.{◌≡◌, ℕ, suc, ◌+◌, ◌-◌, ◌≤◌, sym, ap, ◌∙◌, subst, zero-mul, arith}
 use Rattle.encoding.specs.Chains.{truth_at}
 use Rattle.encoding.specs.Clauses.{numbered, truth, truth_of}
 use Rattle.encoding.specs.Ranges.{each, total}
@@ -13,9 +13,13 @@ pub first-variables : (T : Table) → variables T 0 ≡ T.facts + T.actions
 unfolding variables
 first-variables T = omega (arith, zero-mul (step_size T))
 
-pub truth-from : (T : Table) (i : ℕ) → truth_from T (i + 1) ≡ truth_at T (i + 1) (variables T 0) (total i (width T)) (i + 1)
+-- the truth clauses of fact p, where so many pairs come before its own
+pub truth_is : (T : Table) (p before : ℕ) → 1 ≤ p → before ≡ total (p - 1) (width T) → truth_at T p (variables T 0) before p ≡ truth_from T p
 unfolding number
-truth-from T i = let P : ℕ → Type 0 = λ p. truth_from T p ≡ truth_at T p (variables T 0) (total i (width T)) p in subst P (sym (add-one i)) (truth_of-numbers T 0 i)
+truth_is T p before l h =
+    let m : suc (p - 1) ≡ p = omega arith in
+    let P : ℕ → Type 0 = λ q. truth_at T q (variables T 0) (total (p - 1) (width T)) q ≡ truth_from T q in
+    ap (λ b. truth_at T p (variables T 0) b p) h ∙ subst P m (sym (truth_of-numbers T 0 (p - 1)))
 
 pub truth-each : (T : Table) → numbered T (truth T 0) ≡ each T.facts (truth_from T)
 truth-each T = numbered-each T T.facts (truth_of T 0)

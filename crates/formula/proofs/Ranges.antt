@@ -1,12 +1,37 @@
 -- The clauses of the first step, and of start and goal, by one fact, action or event: what each turn of a loop puts.
 -- Assumes nothing.
-use Rattle.std.proofs.Common.{ℕ, ◌-◌, ◌*◌, cond, List, [], ◌∷◌}
+use Rattle.std.proofs.Common.{◌≡◌, ℕ, ◌+◌, ◌-◌, ◌*◌, ◌≤◌, Bool, true, false, cond, List, [], ◌∷◌, sym, refl, ap, ◌∙◌, ap₂, arith}
+use mir.Val.{bool_byte}
 use Rattle.encoding.specs.Clauses.{Literal, agenda_of, is, isnt, numbered, truth_of}
 use Rattle.encoding.specs.Chains.{turn_at}
-use Rattle.encoding.specs.Ranges.{count, each, only}
+use Rattle.encoding.specs.Ranges.{count, each, only, total}
 use Rattle.encoding.specs.Tables.{Table, relevant}
 use Rattle.encoding.specs.Variables.{O, X, Y, number, variables}
+use Rattle.encoding.proofs.Ranges.{count-more, total-more}
 use Rattle.formula.specs.Parts.{kept_at}
+
+-- One more of a count and of a total, where a loop stands at i: k is how far it then goes
+pub count-next : (i k : ℕ) (f : ℕ → Bool) → 1 ≤ i → k ≡ i → count k f ≡ count (i - 1) f + cond (f i) 1 0
+count-next i k f l h =
+    let m : i - 1 + 1 ≡ i = omega arith in
+    ap (λ j. count j f) (h ∙ sym m) ∙ count-more (i - 1) f ∙ ap (λ j. count (i - 1) f + cond (f j) 1 0) m
+
+-- the same, where what is added is 1 if f holds and otherwise 0
+pub counted : (i k m b : ℕ) (f : ℕ → Bool) → 1 ≤ i → k ≡ i → m ≡ count (i - 1) f → b ≡ cond (f i) 1 0 → m + b ≡ count k f
+counted i k m b f l h e d = ap₂ ◌+◌ e d ∙ sym (count-next i k f l h)
+
+pub bit_is : (b : Bool) → bool_byte b ≡ cond b 1 0
+bit_is true = refl
+bit_is false = refl
+
+pub bit-small : (b : Bool) → bool_byte b ≤ 1
+bit-small true = omega arith
+bit-small false = omega arith
+
+pub total-next : (i k : ℕ) (f : ℕ → ℕ) → 1 ≤ i → k ≡ i → total k f ≡ total (i - 1) f + f i
+total-next i k f l h =
+    let m : i - 1 + 1 ≡ i = omega arith in
+    ap (λ j. total j f) (h ∙ sym m) ∙ total-more (i - 1) f ∙ ap (λ j. total (i - 1) f + f j) m
 
 abbrev pub start_at : Table → ℕ → List (List (Literal ℕ))
 start_at T p = (cond (T.initial p) (is p) (isnt p) ∷ []) ∷ []

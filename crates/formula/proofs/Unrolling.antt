@@ -9,7 +9,8 @@ use Rattle.encoding.proofs.Emitting.{formula-is, numbered-append}
 use Rattle.encoding.proofs.Unrolling.{agenda-plus, goal-plus, kept-plus, truth-plus}
 use Rattle.formula.specs.declared.template.Family.TheVariants.{Agenda, Kept, Truth, Goal}
 use Rattle.formula.specs.declared.template.Template.{Template}
-use Rattle.formula.specs.Templates.{Templated, said, shifted, tagged, tagged_step, tagged_steps, tagged_unrolled, unrolled, unrolled_step, unrolled_steps}
+use Rattle.formula.specs.Listings.{shifted}
+use Rattle.formula.specs.Templates.{Templated, said, tagged, tagged_step, tagged_steps, tagged_unrolled, unrolled, unrolled_step, unrolled_steps}
 
 module _ (T : Table) (t : Template) (h : Templated T t) where
   -- each family of step s + 1, and the goal's at n

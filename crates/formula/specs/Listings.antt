@@ -1,7 +1,9 @@
--- Clauses in memory, read as clauses over the variables' numbers; and how a list of them grows.
+-- Clauses in memory, read as clauses over the variables' numbers; how a list of them grows; and when a store may take them.
 -- Assumes nothing.
 use Rattle.std.specs.Prelude.{◌≡◌, ℕ, ◌+◌, ◌≤◌, List, [], ◌∷◌, ◌++◌, map, length, take}
-use Rattle.encoding.specs.Clauses.{Literal, is, isnt}
+use Rattle.std.specs.List.{AllByRecursion}
+use Rattle.encoding.specs.Clauses.{Literal, is, isnt, rename, variable}
+use Rattle.encoding.specs.Limits.{literal_limit}
 use Rattle.formula.specs.declared.clauses.Literal.{Literal as Written}
 use Rattle.formula.specs.declared.clauses.Literal.TheVariants.{Is, Isnt}
 use Rattle.formula.specs.declared.clauses.Clause.{Clause}
@@ -31,3 +33,15 @@ pub record Grew {N : ℕ} (s t : Listing N) (cs : List (List (Literal ℕ))) : T
 
 abbrev pub Joined : {N : ℕ} → Listing N → Listing N → List (List (Literal ℕ)) → Type 0
 Joined {N} s t cs = s.count + length cs ≤ N → Grew s t cs
+
+-- a literal whose variable a clause may name
+abbrev pub InLimits : Literal ℕ → Type 0
+InLimits l = (1 ≤ variable l) × (variable l ≤ literal_limit)
+
+-- clauses with k added to each variable
+abbrev pub shifted : ℕ → List (List (Literal ℕ)) → List (List (Literal ℕ))
+shifted k cs = map (map (rename (λ v. v + k))) cs
+
+-- the clauses of a listing name such variables, also with k added to each
+abbrev pub LawfulAt : {N : ℕ} → ℕ → Listing N → Type 0
+LawfulAt k l = AllByRecursion (AllByRecursion InLimits) (shifted k (listed l))

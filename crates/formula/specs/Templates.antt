@@ -1,7 +1,7 @@
 -- Templates: what the five families of a template are, and the clause list of n steps that they unroll to.
 -- Assumes nothing.
-use Rattle.std.specs.Prelude.{◌≡◌, ℕ, zero, suc, ◌+◌, ◌*◌, List, ◌++◌, map}
-use Rattle.encoding.specs.Clauses.{Literal, agenda, goal, kept, numbered, rename, start, truth}
+use Rattle.std.specs.Prelude.{◌≡◌, ℕ, zero, suc, ◌*◌, List, ◌++◌, map}
+use Rattle.encoding.specs.Clauses.{Literal, agenda, goal, kept, numbered, start, truth}
 use Rattle.encoding.specs.Labels.{Labelled}
 use Rattle.encoding.specs.Tables.{Table}
 use Rattle.encoding.specs.Variables.{step_size}
@@ -9,7 +9,7 @@ use Rattle.formula.specs.declared.clauses.Clause.{Clause}
 use Rattle.formula.specs.declared.template.Family.{Family}
 use Rattle.formula.specs.declared.template.Family.TheVariants.{Start, Agenda, Kept, Truth, Goal}
 use Rattle.formula.specs.declared.template.Template.{Template}
-use Rattle.formula.specs.Listings.{lits, values}
+use Rattle.formula.specs.Listings.{lits, shifted, values}
 
 abbrev pub family_number : Family → ℕ
 family_number Start = 1
@@ -37,10 +37,6 @@ pub record Templated (T : Table) (t : Template) : Type 0 where
   pub truth : said t Truth ≡ numbered T (truth T 0)
   pub goal : said t Goal ≡ numbered T (goal T 0)
   pub size : t.step_size ≡ step_size T
-
--- clauses with k added to each variable
-abbrev pub shifted : ℕ → List (List (Literal ℕ)) → List (List (Literal ℕ))
-shifted k cs = map (map (rename (λ v. v + k))) cs
 
 -- The clauses of step s + 1, and of n steps
 abbrev pub unrolled_step : Template → ℕ → List (List (Literal ℕ))

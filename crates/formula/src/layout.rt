@@ -10,6 +10,7 @@ use table::Table;
 mod families;
 mod numbers;
 mod truth;
+mod turns;
 
 #[derive(Drop)]
 pub(crate) struct Layout<'a> {

@@ -6,11 +6,14 @@
 #![tactic(auto)]
 
 mod clauses;
+mod events;
 mod groups;
 mod layout;
 mod listing;
+mod steps;
 mod template;
 mod widths;
 
 pub use clauses::{Clause, Literal};
+pub use steps::{Steps, StepsOutOfLimits};
 pub use template::{Family, Template};

@@ -1,62 +1,15 @@
 //! A list of clauses in memory of its own, for at most N of them.
 
-ghost use Rattle.std.specs.Prelude.{◌≡◌, [], ◌∷◌, map, take};
-ghost use Rattle.formula.specs.Listings.{Joined, lits, values};
+ghost use Rattle.std.specs.Prelude.{◌≤◌};
 
-use crate::clauses::{Clause, Literal};
+use crate::clauses::Clause;
 
+mod growing;
+
+// An array with a count beside it, and no `Vec`: no heap is used here.
 #[derive(Drop)]
 pub struct Listing<const N: usize> {
     slots: [Clause; N],
     count: usize,
-}
-
-impl<const N: usize> Listing<N> {
-    pub(crate) fn none() -> Listing<N>
-        ensures { result.count ≡ 0 }
-    {
-        let unused = Clause::One(Literal::Is(0));
-        Listing {
-            slots: [unused; N],
-            count: 0,
-        }
-    }
-
-    /// Puts a clause after the last, where there is room.
-    pub(crate) fn push(&mut self, clause: Clause)
-        ensures { Joined self.old self.new (lits clause ∷ []) }
-    {
-        let at = self.count;
-        if at < N {
-            self.slots[at] = clause;
-            self.count = at + 1;
-        }
-    }
-
-    /// Puts clauses after the last, where there is room for them all.
-    pub(crate) fn extend(&mut self, clauses: &[Clause])
-        ensures { Joined self.old self.new (map lits clauses.now) }
-    {
-        for clause in clauses {
-            self.push(*clause);
-        }
-    }
-
-    /// The clauses, first to last.
-    pub(crate) fn as_slice(&self) -> &[Clause]
-        ensures { result.now ≡ values self.now }
-    {
-        front(&self.slots, self.count)
-    }
-}
-
-// The first `count` clauses of a row, or all of them where there are fewer.
-fn front(row: &[Clause], count: usize) -> &[Clause]
-    ensures { result.now ≡ take count row.now }
-{
-    if count < row.len() {
-        &row[..count]
-    } else {
-        row
-    }
+    ghost within: { count ≤ N },
 }

@@ -8,14 +8,11 @@ ghost use Rattle.table.specs.Model.{meant};
 use table::Table;
 
 /// Whether the event requires, adds or deletes the fact.
+#[tactic(auto, unfolding(encoding::specs::Tables::relevant))]
 pub(crate) fn relevant(table: &Table, event: u32, fact: u32) -> bool
     ensures { result ≡ is_relevant (meant table.now) event fact }
 {
-    either(
-        table.requires_fact(event, fact),
-        table.adds(event, fact),
-        table.deletes(event, fact),
-    )
+    table.requires_fact(event, fact) || table.adds(event, fact) || table.deletes(event, fact)
 }
 
 /// To how many events the fact is relevant.
@@ -23,10 +20,8 @@ pub(crate) fn width(table: &Table, fact: u32) -> u32
     ensures { result ≡ width_of (meant table.now) fact }
 {
     let mut count = 0;
-    for i in 0..2 * table.actions() {
-        if relevant(table, i + 1, fact) {
-            count += 1;
-        }
+    for event in 1..=2 * table.actions() {
+        count += u32::from(relevant(table, event, fact));
     }
     count
 }
@@ -37,14 +32,8 @@ pub(crate) fn pairs(table: &Table) -> u32
     ensures few { result ≤ 1024 }
 {
     let mut sum = 0;
-    for i in 0..table.facts() {
-        sum += width(table, i + 1);
+    for fact in 1..=table.facts() {
+        sum += width(table, fact);
     }
     sum
-}
-
-fn either(a: bool, b: bool, c: bool) -> bool
-    ensures { result ≡ (a || (b || c)) }
-{
-    a || b || c
 }

@@ -3,87 +3,62 @@
 use super::{Draft, Job, rehearse, state_after};
 use refusal::{Code, Fault};
 use std::test::Fail;
-use table::{NoteFault, PlanFault, SizeFault};
 
-fn code(number: u32, first: u128, second: u128, third: u128) -> Code {
-    Code {
-        number,
-        first,
-        second,
-        third,
-    }
+fn coded<F: Fault + Drop>(answer: Result<(), F>) -> Result<(), Code> {
+    answer.map_err(|fault| fault.code())
 }
 
-const GRANTED: u32 = 0;
-
-fn sized(answer: Result<(), SizeFault>) -> u32 {
-    match answer {
-        Ok(()) => GRANTED,
-        Err(fault) => fault.code().number,
-    }
-}
-
-fn noted(answer: Result<(), NoteFault>) -> u32 {
-    match answer {
-        Ok(()) => GRANTED,
-        Err(fault) => fault.code().number,
-    }
-}
-
-fn rehearsed(answer: Result<(), PlanFault>) -> Code {
-    match answer {
-        Ok(()) => code(GRANTED, 0, 0, 0),
-        Err(fault) => fault.code(),
-    }
+fn numbered<F: Fault + Drop>(answer: Result<(), F>) -> Result<(), u32> {
+    coded(answer).map_err(|code| code.number)
 }
 
 #[test]
 fn sizes(rt: HostRuntime) {
     let cases = [
-        (0, 1, 1),
-        (1, 0, 1),
-        (33, 1, 1),
-        (1, 17, 1),
-        (u32::MAX, u32::MAX, 1),
-        (32, 16, GRANTED),
-        (1, 1, GRANTED),
-        (5, 3, GRANTED),
+        (0, 1, Err(1)),
+        (1, 0, Err(1)),
+        (33, 1, Err(1)),
+        (1, 17, Err(1)),
+        (u32::MAX, u32::MAX, Err(1)),
+        (32, 16, Ok(())),
+        (1, 1, Ok(())),
+        (5, 3, Ok(())),
     ];
     let mut draft = Draft::new();
-    for (facts, actions, number) in cases {
-        assert_eq!(rt; sized(draft.size(facts, actions)), number);
+    for (facts, actions, expected) in cases {
+        assert_eq!(rt; numbered(draft.size(facts, actions)), expected);
     }
     // the last granted size stands, and a granted note ends sizing, in or out of the limits
-    assert_eq!(rt; noted(draft.note(3, 3, 5)), GRANTED);
-    assert_eq!(rt; sized(draft.size(5, 3)), 2);
-    assert_eq!(rt; sized(draft.size(33, 3)), 1);
+    assert_eq!(rt; numbered(draft.note(3, 3, 5)), Ok(()));
+    assert_eq!(rt; numbered(draft.size(5, 3)), Err(2));
+    assert_eq!(rt; numbered(draft.size(33, 3)), Err(1));
 }
 
 #[test]
 fn notes(rt: HostRuntime) {
     let cases = [
-        (0, 0, 1, 3),
-        (10, 1, 1, 3),
-        (u32::MAX, u32::MAX, u32::MAX, 3),
-        (1, 1, 0, 4),
-        (2, 1, 1, 4),
-        (3, 0, 1, 4),
-        (9, 3, 33, 4),
-        (4, u32::MAX, 1, 4),
-        (1, 0, 0, 5),
-        (1, 0, 4, 5),
-        (9, 2, 33, 5),
-        (8, 1, u32::MAX, 5),
-        (1, 0, 3, GRANTED),
-        (1, 0, 3, 6),
-        (2, 0, 3, GRANTED),
-        (4, 1, 1, GRANTED),
-        (4, 1, 1, 6),
+        (0, 0, 1, Err(3)),
+        (10, 1, 1, Err(3)),
+        (u32::MAX, u32::MAX, u32::MAX, Err(3)),
+        (1, 1, 0, Err(4)),
+        (2, 1, 1, Err(4)),
+        (3, 0, 1, Err(4)),
+        (9, 3, 33, Err(4)),
+        (4, u32::MAX, 1, Err(4)),
+        (1, 0, 0, Err(5)),
+        (1, 0, 4, Err(5)),
+        (9, 2, 33, Err(5)),
+        (8, 1, u32::MAX, Err(5)),
+        (1, 0, 3, Ok(())),
+        (1, 0, 3, Err(6)),
+        (2, 0, 3, Ok(())),
+        (4, 1, 1, Ok(())),
+        (4, 1, 1, Err(6)),
     ];
     let mut draft = Draft::new();
-    assert_eq!(rt; sized(draft.size(3, 2)), GRANTED);
-    for (role, action, fact, number) in cases {
-        assert_eq!(rt; noted(draft.note(role, action, fact)), number);
+    assert_eq!(rt; numbered(draft.size(3, 2)), Ok(()));
+    for (role, action, fact, expected) in cases {
+        assert_eq!(rt; numbered(draft.note(role, action, fact)), expected);
     }
 }
 
@@ -92,16 +67,22 @@ fn notes(rt: HostRuntime) {
 fn clashes(rt: HostRuntime) {
     for (one, other) in [(4, 5), (5, 4), (7, 8), (8, 7), (5, 9), (9, 5)] {
         let mut draft = Draft::new();
-        assert_eq!(rt; sized(draft.size(2, 2)), GRANTED);
-        assert_eq!(rt; noted(draft.note(one, 1, 1)), GRANTED);
-        assert_eq!(rt; noted(draft.note(other, 1, 1)), 7);
-        assert_eq!(rt; noted(draft.note(other, 1, 2)), GRANTED);
-        assert_eq!(rt; noted(draft.note(other, 2, 1)), GRANTED);
+        assert_eq!(rt; numbered(draft.size(2, 2)), Ok(()));
+        assert_eq!(rt; numbered(draft.note(one, 1, 1)), Ok(()));
+        assert_eq!(rt; numbered(draft.note(other, 1, 1)), Err(7));
+        assert_eq!(rt; numbered(draft.note(other, 1, 2)), Ok(()));
+        assert_eq!(rt; numbered(draft.note(other, 2, 1)), Ok(()));
     }
     // an end may delete a held fact of its own action, and a start may add one
     let mut draft = Draft::new();
-    for (role, number) in [(9, GRANTED), (8, GRANTED), (4, GRANTED), (5, 7), (7, 7)] {
-        assert_eq!(rt; noted(draft.note(role, 1, 1)), number);
+    for (role, expected) in [
+        (9, Ok(())),
+        (8, Ok(())),
+        (4, Ok(())),
+        (5, Err(7)),
+        (7, Err(7)),
+    ] {
+        assert_eq!(rt; numbered(draft.note(role, 1, 1)), expected);
     }
 }
 
@@ -117,48 +98,48 @@ fn filled(facts: u32, actions: u32, notes: &[(u32, u32, u32)]) -> Job {
 #[test]
 fn plans_of_cell_one(rt: HostRuntime) {
     let job = filled(1, 1, &[(2, 0, 1), (7, 1, 1)]);
+    assert_eq!(rt; coded(rehearse(&job, 1, &[(1, 1), (1, 2)])), Ok(()));
+    assert_eq!(rt; coded(rehearse(&job, 2, &[(1, 1), (2, 2)])), Ok(()));
+    assert_eq!(rt; coded(rehearse(&job, 1, &[])), Err(Code::new(15, 0, 6, 1)));
     assert_eq!(rt;
-        rehearsed(rehearse(&job, 1, &[(1, 1), (1, 2)])),
-        code(GRANTED, 0, 0, 0)
+        coded(rehearse(&job, 1, &[(1, 1)])),
+        Err(Code::new(15, 0, 5, 1))
     );
     assert_eq!(rt;
-        rehearsed(rehearse(&job, 2, &[(1, 1), (2, 2)])),
-        code(GRANTED, 0, 0, 0)
-    );
-    assert_eq!(rt; rehearsed(rehearse(&job, 1, &[])), code(15, 0, 6, 1));
-    assert_eq!(rt; rehearsed(rehearse(&job, 1, &[(1, 1)])), code(15, 0, 5, 1));
-    assert_eq!(rt; rehearsed(rehearse(&job, 1, &[(1, 2)])), code(14, 1, 3, 1));
-    assert_eq!(rt;
-        rehearsed(rehearse(&job, 2, &[(1, 1), (2, 1)])),
-        code(14, 2, 2, 1)
+        coded(rehearse(&job, 1, &[(1, 2)])),
+        Err(Code::new(14, 1, 3, 1))
     );
     assert_eq!(rt;
-        rehearsed(rehearse(&job, 0, &[(1, 1), (1, 2)])),
-        code(13, 1, 0, 0)
+        coded(rehearse(&job, 2, &[(1, 1), (2, 1)])),
+        Err(Code::new(14, 2, 2, 1))
     );
     assert_eq!(rt;
-        rehearsed(rehearse(&job, 1, &[(1, 1), (1, 2), (2, 1)])),
-        code(13, 3, 0, 0)
+        coded(rehearse(&job, 0, &[(1, 1), (1, 2)])),
+        Err(Code::new(13, 1, 0, 0))
     );
     assert_eq!(rt;
-        rehearsed(rehearse(&job, 1, &[(1, 1), (1, 1)])),
-        code(13, 2, 0, 0)
+        coded(rehearse(&job, 1, &[(1, 1), (1, 2), (2, 1)])),
+        Err(Code::new(13, 3, 0, 0))
     );
     assert_eq!(rt;
-        rehearsed(rehearse(&job, 1, &[(1, 2), (1, 1)])),
-        code(13, 2, 0, 0)
+        coded(rehearse(&job, 1, &[(1, 1), (1, 1)])),
+        Err(Code::new(13, 2, 0, 0))
     );
     assert_eq!(rt;
-        rehearsed(rehearse(&job, 1, &[(1, 2), (1, 3)])),
-        code(13, 2, 0, 0)
+        coded(rehearse(&job, 1, &[(1, 2), (1, 1)])),
+        Err(Code::new(13, 2, 0, 0))
     );
     assert_eq!(rt;
-        rehearsed(rehearse(&job, u32::MAX, &[(0, 1)])),
-        code(13, 1, 0, 0)
+        coded(rehearse(&job, 1, &[(1, 2), (1, 3)])),
+        Err(Code::new(13, 2, 0, 0))
     );
     assert_eq!(rt;
-        rehearsed(rehearse(&job, u32::MAX, &[(1, 1), (u32::MAX, u32::MAX)])),
-        code(13, 2, 0, 0)
+        coded(rehearse(&job, u32::MAX, &[(0, 1)])),
+        Err(Code::new(13, 1, 0, 0))
+    );
+    assert_eq!(rt;
+        coded(rehearse(&job, u32::MAX, &[(1, 1), (u32::MAX, u32::MAX)])),
+        Err(Code::new(13, 2, 0, 0))
     );
 }
 
@@ -170,21 +151,24 @@ fn plans_of_cell_two(rt: HostRuntime) {
         &[(4, 1, 1), (8, 1, 1), (9, 2, 1), (7, 2, 2), (2, 0, 2)],
     );
     assert_eq!(rt;
-        rehearsed(rehearse(&job, 2, &[(1, 1), (1, 3), (1, 4), (2, 2)])),
-        code(GRANTED, 0, 0, 0)
+        coded(rehearse(&job, 2, &[(1, 1), (1, 3), (1, 4), (2, 2)])),
+        Ok(())
     );
     assert_eq!(rt;
-        rehearsed(rehearse(&job, 2, &[(1, 1), (1, 3), (2, 2), (2, 4)])),
-        code(14, 3, 4, 2)
-    );
-    assert_eq!(rt; rehearsed(rehearse(&job, 2, &[(1, 3)])), code(14, 1, 1, 1));
-    assert_eq!(rt;
-        rehearsed(rehearse(&job, 2, &[(1, 1), (1, 3)])),
-        code(15, 0, 5, 1)
+        coded(rehearse(&job, 2, &[(1, 1), (1, 3), (2, 2), (2, 4)])),
+        Err(Code::new(14, 3, 4, 2))
     );
     assert_eq!(rt;
-        rehearsed(rehearse(&job, 2, &[(1, 1), (1, 2)])),
-        code(15, 0, 6, 2)
+        coded(rehearse(&job, 2, &[(1, 3)])),
+        Err(Code::new(14, 1, 1, 1))
+    );
+    assert_eq!(rt;
+        coded(rehearse(&job, 2, &[(1, 1), (1, 3)])),
+        Err(Code::new(15, 0, 5, 1))
+    );
+    assert_eq!(rt;
+        coded(rehearse(&job, 2, &[(1, 1), (1, 2)])),
+        Err(Code::new(15, 0, 6, 2))
     );
 }
 

@@ -1,7 +1,7 @@
 //! Every refusal of the planner, with the figures that it names, and its code.
 
 ghost use Rattle.std.specs.Prelude.{◌≡◌};
-ghost use Rattle.refusal.specs.Codes.{code_of, obstacle_of, unmet_of};
+ghost use Rattle.refusal.specs.Codes.{code_of, obstacle_of, says, unmet_of};
 
 /// A refusal's number and its three figures. A figure that the refusal does not name is 0.
 /// Figures have 128 bits, so that one more than the largest size of a tray is one, too.
@@ -11,6 +11,19 @@ pub struct Code {
     pub first: u128,
     pub second: u128,
     pub third: u128,
+}
+
+impl Code {
+    pub fn new(number: u32, first: u128, second: u128, third: u128) -> Code
+        ensures { result ≡ says number first second third }
+    {
+        Code {
+            number,
+            first,
+            second,
+            third,
+        }
+    }
 }
 
 /// Why an event does not run, with the lowest fact or action to blame.
@@ -67,7 +80,7 @@ pub enum Refusal {
 }
 
 impl Obstacle {
-    /// The number of the cause, and its item.
+    /// The number of the cause, and its item: two figures of the refusal's printed line.
     pub fn cause(&self) -> (u32, u32)
         ensures { result ≡ obstacle_of self.now }
     {
@@ -81,7 +94,7 @@ impl Obstacle {
 }
 
 impl Unmet {
-    /// The number of the cause, and its item.
+    /// The number of the cause, and its item: two figures of the refusal's printed line.
     pub fn cause(&self) -> (u32, u32)
         ensures { result ≡ unmet_of self.now }
     {
@@ -98,60 +111,47 @@ impl Refusal {
         ensures { result ≡ code_of self.now }
     {
         match *self {
-            Refusal::SizeOutOfLimits => plain(1),
-            Refusal::SizeAfterNote => plain(2),
-            Refusal::RoleOutOfLimits => plain(3),
-            Refusal::ActionOutOfLimits => plain(4),
-            Refusal::FactOutOfLimits => plain(5),
-            Refusal::NoteRepeated => plain(6),
-            Refusal::NoteClashes => plain(7),
-            Refusal::StepsOutOfLimits => plain(8),
-            Refusal::PriceExceedsFree => plain(9),
-            Refusal::VariableWithoutValue { variable } => figures(10, variable as u128, 0, 0),
+            Refusal::SizeOutOfLimits => Code::new(1, 0, 0, 0),
+            Refusal::SizeAfterNote => Code::new(2, 0, 0, 0),
+            Refusal::RoleOutOfLimits => Code::new(3, 0, 0, 0),
+            Refusal::ActionOutOfLimits => Code::new(4, 0, 0, 0),
+            Refusal::FactOutOfLimits => Code::new(5, 0, 0, 0),
+            Refusal::NoteRepeated => Code::new(6, 0, 0, 0),
+            Refusal::NoteClashes => Code::new(7, 0, 0, 0),
+            Refusal::StepsOutOfLimits => Code::new(8, 0, 0, 0),
+            Refusal::PriceExceedsFree => Code::new(9, 0, 0, 0),
+            Refusal::VariableWithoutValue { variable } => Code::new(10, u128::from(variable), 0, 0),
             Refusal::FalseClause {
                 clause,
                 family,
                 step,
-            } => figures(11, clause as u128, family as u128, step as u128),
-            Refusal::TrayTooShort { needed } => figures(12, needed, 0, 0),
-            Refusal::PairMisplaced { place } => figures(13, place as u128, 0, 0),
+            } => Code::new(11, u128::from(clause), u128::from(family), u128::from(step)),
+            Refusal::TrayTooShort { needed } => Code::new(12, needed, 0, 0),
+            Refusal::PairMisplaced { place } => Code::new(13, place as u128, 0, 0),
             Refusal::EventDoesNotRun { place, obstacle } => {
                 let (cause, item) = obstacle.cause();
-                figures(14, place as u128, cause as u128, item as u128)
+                Code::new(14, place as u128, u128::from(cause), u128::from(item))
             }
             Refusal::WrongEnding { unmet } => {
                 let (cause, item) = unmet.cause();
-                figures(15, 0, cause as u128, item as u128)
+                Code::new(15, 0, u128::from(cause), u128::from(item))
             }
-            Refusal::MapTooShort { variables } => figures(16, variables as u128, 0, 0),
-            Refusal::ClauseOutOfLimits => plain(17),
-            Refusal::MalformedText { line, column } => figures(18, line as u128, column as u128, 0),
-            Refusal::NoModel => plain(19),
-            Refusal::LineRefused { line, number } => figures(20, line as u128, 0, number as u128),
-            Refusal::InputTooLong => plain(21),
+            Refusal::MapTooShort { variables } => Code::new(16, u128::from(variables), 0, 0),
+            Refusal::ClauseOutOfLimits => Code::new(17, 0, 0, 0),
+            Refusal::MalformedText { line, column } => Code::new(
+                18,
+                line as u128,
+                column as u128,
+                0,
+            ),
+            Refusal::NoModel => Code::new(19, 0, 0, 0),
+            Refusal::LineRefused { line, number } => Code::new(
+                20,
+                line as u128,
+                0,
+                u128::from(number),
+            ),
+            Refusal::InputTooLong => Code::new(21, 0, 0, 0),
         }
-    }
-}
-
-fn plain(number: u32) -> Code
-    ensures number { result.number ≡ number }
-    ensures first { result.first ≡ 0 }
-    ensures second { result.second ≡ 0 }
-    ensures third { result.third ≡ 0 }
-{
-    figures(number, 0, 0, 0)
-}
-
-fn figures(number: u32, first: u128, second: u128, third: u128) -> Code
-    ensures number { result.number ≡ number }
-    ensures first { result.first ≡ first }
-    ensures second { result.second ≡ second }
-    ensures third { result.third ≡ third }
-{
-    Code {
-        number,
-        first,
-        second,
-        third,
     }
 }

@@ -1,36 +1,13 @@
-//! Standard input and output, for the `main` of a program. No contract can say what is read or written: of that nothing is proved.
+//! Standard input and output, for the `main` of a program. No contract can say what is read there, or what reaches the output. What a
+//! program gives to be written is proved.
 
 ghost use Rattle.std.specs.Prelude.{◌≡◌};
-ghost use Rattle.report.specs.Endings.{Ends, HasFailed};
-ghost use Rattle.report.specs.declared.console.Stop.TheVariants.{Failed};
+ghost use Rattle.report.specs.Endings.{Ends, Writes};
 
-use crate::outputs::{LONGEST_INPUT, Output};
-use std::alloc::AllocError;
+use crate::outputs::{LONGEST_INPUT, Stop};
+use crate::refusals::RefusalLine;
 use std::io;
 use std::io::{Read, Write};
-
-/// Why a program ends with status 1: it printed a refusal, or it could not read, print or get memory.
-#[derive(Debug, Drop)]
-pub enum Stop {
-    Refused,
-    Failed(io::Error),
-}
-
-impl From<io::Error> for Stop {
-    ghost from_gives = { λ e r. r ≡ Failed e };
-
-    fn from(error: io::Error) -> Stop {
-        Stop::Failed(error)
-    }
-}
-
-impl From<AllocError> for Stop {
-    ghost from_gives = { λ e r. HasFailed r };
-
-    fn from(error: AllocError) -> Stop {
-        Stop::Failed(error.into())
-    }
-}
 
 /// Reads standard input to its end, or to one byte past the longest input.
 pub fn read_input(rt: &HostRuntime) -> io::Result<Vec<u8>> {
@@ -41,14 +18,22 @@ pub fn read_input(rt: &HostRuntime) -> io::Result<Vec<u8>> {
     Ok(bytes)
 }
 
-/// Writes the output to standard output. A refusal, and no granted output, is an `Err(Stop::Refused)`, so that a `main` that returns it
-/// ends with status 1.
-pub fn print_output(rt: &HostRuntime, output: &Output) -> Result<(), Stop>
-    ensures { Ends output.now result }
+/// Writes the text that was asked for, or the line of the refusal, which is then given on as an `Err`: a `main` that returns it ends with
+/// status 1.
+pub fn print_output<W: Write>(to: &mut W, output: Result<Vec<u8>, Stop>) -> Result<(), Stop>
+    ensures ends { Ends output result }
+    ensures written { Writes output result (W.contents to.old) (W.contents to.new) }
 {
-    rt.stdout().write_all(output.bytes())?;
     match output {
-        Output::Granted(_) => Ok(()),
-        Output::Refused(_) => Err(Stop::Refused),
+        Ok(text) => {
+            to.write_all(text.as_slice())?;
+            Ok(())
+        }
+        Err(Stop::Refused(refusal)) => {
+            let line = RefusalLine(refusal.code());
+            writeln!(to, "{line}")?;
+            Err(Stop::Refused(refusal))
+        }
+        Err(failure) => Err(failure),
     }
 }

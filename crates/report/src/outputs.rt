@@ -1,40 +1,45 @@
-//! What a program prints in the end: the text that it was asked for, or the line of a refusal.
+//! What a program answers in the end: the text that it was asked for, or why it stops without.
 
-ghost use Rattle.std.specs.Prelude.{◌≡◌, IfOk};
-ghost use Rattle.report.specs.Outputs.{Refuses, bytes_of, too_long};
+ghost use Rattle.std.specs.Prelude.{◌≡◌};
+ghost use Rattle.report.specs.Outputs.{too_long};
+ghost use Rattle.report.specs.declared.outputs.Stop.TheVariants.{Refused as RefusedFor, OutOfMemory as NoMemory, Failed as FailedBy};
 
-use crate::refusals::refusal_line;
-use refusal::Code;
-use std::alloc::{AllocError, Global};
+use refusal::Refusal;
+use std::alloc::AllocError;
+use std::io;
 
 /// How many bytes of input a program takes at most.
 pub const LONGEST_INPUT: usize = 32_768;
 
-#[derive(Drop)]
-pub enum Output {
-    /// the text that was asked for
-    Granted(Vec<u8>),
-    /// the line of the refusal
-    Refused(Vec<u8>),
+/// Why a program ends with status 1: what it was asked for is refused, or it could not get memory, read or print.
+#[derive(Debug, Drop)]
+pub enum Stop {
+    Refused(Refusal),
+    OutOfMemory,
+    Failed(io::Error),
 }
 
-impl Output {
-    /// The output of a program that refuses.
-    pub fn refusal(heap: Global, code: Code) -> Result<Output, AllocError>
-        ensures { IfOk result (λ output. Refuses output code) }
-    {
-        let line = refusal_line(heap, code)?;
-        Ok(Output::Refused(line))
-    }
+impl From<Refusal> for Stop {
+    ghost from_gives = { λ e r. r ≡ RefusedFor e };
 
-    /// The bytes to print.
-    pub fn bytes(&self) -> &[u8]
-        ensures { result.now ≡ bytes_of self.now }
-    {
-        match self {
-            Output::Granted(text) => text.as_slice(),
-            Output::Refused(line) => line.as_slice(),
-        }
+    fn from(refusal: Refusal) -> Stop {
+        Stop::Refused(refusal)
+    }
+}
+
+impl From<AllocError> for Stop {
+    ghost from_gives = { λ e r. r ≡ NoMemory };
+
+    fn from(_error: AllocError) -> Stop {
+        Stop::OutOfMemory
+    }
+}
+
+impl From<io::Error> for Stop {
+    ghost from_gives = { λ e r. r ≡ FailedBy e };
+
+    fn from(error: io::Error) -> Stop {
+        Stop::Failed(error)
     }
 }
 

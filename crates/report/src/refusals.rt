@@ -1,25 +1,26 @@
 //! The line that a refusal is printed as.
 
-ghost use Rattle.std.specs.Prelude.{◌≡◌, IfOk};
-ghost use Rattle.report.specs.Lines.{refusal_line};
+ghost use Rattle.std.specs.Prelude.{Some};
+ghost use Rattle.report.specs.Lines.{refusal_text};
 
-use crate::columns::justified;
 use refusal::Code;
-use std::alloc::{AllocError, Global};
+use std::fmt;
 
-/// How many columns a refusal's number and each of its figures have.
-const NUMBER: usize = 4;
+/// A refusal as it is printed: `refused`, its number in 4 columns and its three figures in 7 each. No line feed ends it.
+#[derive(Clone, Copy)]
+pub struct RefusalLine(pub Code);
 
-const FIGURE: usize = 7;
+impl fmt::Display for RefusalLine {
+    ghost output = { λ line. Some (refusal_text line.0) };
 
-/// `refused`, the number and the three figures, and a line feed.
-pub fn refusal_line(heap: Global, code: Code) -> Result<Vec<u8>, AllocError>
-    ensures { IfOk result (λ line. line.items ≡ refusal_line code) }
-{
-    let number = justified(heap, NUMBER, code.number as u128)?;
-    let first = justified(heap, FIGURE, code.first)?;
-    let second = justified(heap, FIGURE, code.second)?;
-    let third = justified(heap, FIGURE, code.third)?;
-    let line = format!(in heap; "refused{number}{first}{second}{third}\n")?;
-    Ok(line.into_bytes())
+    #[tactic(auto, using(crate::proofs::Holes::hole_is_column))]
+    fn fmt<W: fmt::Write>(&self, f: &mut fmt::Formatter<W>) -> fmt::Result {
+        let Code {
+            number,
+            first,
+            second,
+            third,
+        } = self.0;
+        write!(f, "refused{number:>4}{first:>7}{second:>7}{third:>7}")
+    }
 }

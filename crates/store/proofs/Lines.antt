@@ -12,41 +12,42 @@ use Rattle.std.proofs.lemmas.List.{length-append, length-replicate, take_more, t
 use Rattle.std.proofs.lemmas.Slice.{put_mid-paste, take-put_mid}
 use Rattle.store.specs.Clauses.{is_literal, all_literals}
 use Rattle.store.specs.Rendering.{justified, field, line_end, line_of, header_of, width, header_length}
-use Rattle.store.specs.Spelling.{spelled, rewritten}
+use Rattle.store.specs.Rewriting.{rewritten}
+use Rattle.store.specs.Spelling.{spelled}
 use Rattle.store.proofs.Meaning.{literals-parts}
 
 pub length-justified : (w : ℕ) (bs : List ℕ) → length bs ≤ w → length (justified w bs) ≡ w
 length-justified w bs h = length-append (replicate (w - length bs) 32) bs ∙ omega (arith, length-replicate {A = ℕ} (w - length bs) 32)
 
 -- a literal has at most five digits and a sign
-pub length-literal : (z : ℤ) → is_literal z ≡ true → length (signed_decimal z) ≤ 6
-length-literal (pos n) e =
+pub length_literal : (z : ℤ) → is_literal z ≡ true → length (signed_decimal z) ≤ 6
+length_literal (pos n) e =
     let h : n < 100000 = grind (arith, nat_tests) in
     omega (arith, length-decimal-le 5 n (omega arith) (omega arith) (omega arith))
-length-literal (negsuc n) e =
+length_literal (negsuc n) e =
     let h : suc n < 100000 = grind (arith, nat_tests) in
     omega (arith, length-decimal-le 5 (suc n) (omega arith) (omega arith) (omega arith))
 
 pub length-field : (z : ℤ) → is_literal z ≡ true → length (field width z) ≡ width
 unfolding field
-length-field z e = length-justified width (signed_decimal z) (omega (arith, length-literal z e))
+length-field z e = length-justified width (signed_decimal z) (omega (arith, length_literal z e))
 
 pub length-count : (n : ℕ) → n < 10 ^ width → length (field width (pos n)) ≡ width
 unfolding field
 length-count n h = length-justified width (decimal n) (length-decimal-le width n (omega arith) (omega arith) (omega arith))
 
 -- a number and its sign, as the code takes them apart
-pub spelled-signed : (z y : ℤ) (n : ℕ) → y ≡ z → n ≡ nat_abs y → spelled n (lt_z y (pos 0)) ≡ signed_decimal z
-spelled-signed z y n e f = ap (λ t. spelled t (lt_z y (pos 0))) f ∙ ap (λ t. spelled (nat_abs t) (lt_z t (pos 0))) e ∙ go z
+pub spelled_signed : (z y : ℤ) (n : ℕ) → y ≡ z → n ≡ nat_abs y → spelled n (lt_z y (pos 0)) ≡ signed_decimal z
+spelled_signed z y n e f = ap (λ t. spelled t (lt_z y (pos 0))) f ∙ ap (λ t. spelled (nat_abs t) (lt_z t (pos 0))) e ∙ go z
   where
     go : (z : ℤ) → spelled (nat_abs z) (lt_z z (pos 0)) ≡ signed_decimal z
     go (pos n) = let b : ltb n 0 ≡ false = grind (arith, nat_tests) in ap (spelled n) b
     go (negsuc n) = refl
 
-pub literal-at : (c : List ℤ) (i : ℕ) → all_literals c ≡ true → i < length c → is_literal (get_or c i (pos 0)) ≡ true
-literal-at [] i e h = absurd (omega arith)
-literal-at (z ∷ c) zero e h = (literals-parts z c e).0
-literal-at (z ∷ c) (suc i) e h = literal-at c i (literals-parts z c e).1 (omega arith)
+pub literal_at : (c : List ℤ) (i : ℕ) → all_literals c ≡ true → i < length c → is_literal (get_or c i (pos 0)) ≡ true
+literal_at [] i e h = absurd (omega arith)
+literal_at (z ∷ c) zero e h = (literals-parts z c e).0
+literal_at (z ∷ c) (suc i) e h = literal_at c i (literals-parts z c e).1 (omega arith)
 
 pub length_fields : (c : List ℤ) → all_literals c ≡ true → length (flat_map (field width) c) ≡ width * length c
 length_fields [] e = refl
@@ -58,8 +59,8 @@ pub length-line : (c : List ℤ) → all_literals c ≡ true → length (line_of
 length-line c e = length-append (flat_map (field width) c) line_end ∙ ap (λ t. t + 3) (length_fields c e)
 
 -- one literal more is written
-pub fields-more : (bs ys : List ℕ) (k i : ℕ) (c : List ℤ) (z : ℤ) → i < length c → z ≡ get_or c i (pos 0) → is_literal z ≡ true → width * i ≤ length bs → ys ≡ field width z → take (width * i) bs ≡ flat_map (field width) (take i c) → take (width * (i + 1)) (put_mid (width * i) k bs ys) ≡ flat_map (field width) (take (i + 1) c)
-fields-more bs ys k i c z h g l b y e =
+pub fields_more : (bs ys : List ℕ) (k i : ℕ) (c : List ℤ) (z : ℤ) → i < length c → z ≡ get_or c i (pos 0) → is_literal z ≡ true → width * i ≤ length bs → ys ≡ field width z → take (width * i) bs ≡ flat_map (field width) (take i c) → take (width * (i + 1)) (put_mid (width * i) k bs ys) ≡ flat_map (field width) (take (i + 1) c)
+fields_more bs ys k i c z h g l b y e =
     let n : width * (i + 1) ≡ width * i + length ys = omega (arith, ap length y, length-field z l) in
     take-put_mid (width * i) k bs ys (width * (i + 1)) n b
     ∙ ap (λ t. t ++ ys) e
@@ -68,8 +69,8 @@ fields-more bs ys k i c z h g l b y e =
     ∙ ap (flat_map (field width)) (sym (take_more c i (pos 0) h))
 
 -- the line's end is written
-pub line-ends : (bs ys : List ℕ) (k i : ℕ) (c : List ℤ) → i ≡ length c → length bs ≡ width * length c + 3 → k ≡ 3 → ys ≡ line_end → take (width * i) bs ≡ flat_map (field width) (take i c) → put_mid (width * length c) k bs ys ≡ line_of width c
-line-ends bs ys k i c n l kk y e =
+pub line_ends : (bs ys : List ℕ) (k i : ℕ) (c : List ℤ) → i ≡ length c → length bs ≡ width * length c + 3 → k ≡ 3 → ys ≡ line_end → take (width * i) bs ≡ flat_map (field width) (take i c) → put_mid (width * length c) k bs ys ≡ line_of width c
+line_ends bs ys k i c n l kk y e =
     let f : take (width * length c) bs ≡ flat_map (field width) c = ap (λ t. take (width * t) bs) (sym n) ∙ e ∙ ap (flat_map (field width)) (take_all i c (omega arith)) in
     put_mid-paste (width * length c) k bs ys line_end 3 y (sym kk) refl
     ∙ paste_all bs (width * length c) line_end 3 refl
@@ -103,8 +104,8 @@ paste-whole b s n l h =
     paste_all b 0 s n l ∙ ap (λ t. s ++ t) (drop_all (0 + n) b (omega arith)) ∙ append-nil s
 
 -- a line is written behind the header, and the header anew
-pub line-and-header : (b line head : List ℕ) (at k largest count : ℕ) (c : List ℤ) → all_literals c ≡ true → header_length ≤ at → at + (width * length c + 3) ≤ length b → k ≡ width * length c + 3 → line ≡ line_of width c → head ≡ header_of width largest count → head ++ drop header_length (put_mid at k b line) ≡ rewritten b at c largest count
-line-and-header b line head at k largest count c a h l kk le he =
+pub line_and_header : (b line head : List ℕ) (at k largest count : ℕ) (c : List ℤ) → all_literals c ≡ true → header_length ≤ at → at + (width * length c + 3) ≤ length b → k ≡ width * length c + 3 → line ≡ line_of width c → head ≡ header_of width largest count → head ++ drop header_length (put_mid at k b line) ≡ rewritten b at c largest count
+line_and_header b line head at k largest count c a h l kk le he =
     let p = width * length c + 3 in
     ap (λ t. t ++ drop header_length (put_mid at k b line)) he
     ∙ ap (λ t. header_of width largest count ++ drop header_length t) (put_mid-paste at k b line (line_of width c) p le (sym kk) (sym (length-line c a)) ∙ paste_all b at (line_of width c) p (sym (length-line c a)))

@@ -1,30 +1,16 @@
 -- Lemmas on clauses, prices and `put` for whoever writes a store, or code over every kind of store.
+use Rattle.std.proofs.lemmas.Bool.{and_parts}
 use Rattle.std.proofs.lemmas.Bool.Decides.{nat_tests}
-use Rattle.std.proofs.Common.{◌≡◌, ℕ, zero, suc, ◌+◌, ◌<◌, ◌≤◌, Bool, true, false, cond, List, [], ◌∷◌, length, get_or, drop, ℤ, pos, negsuc, Err, sym, refl, ap, ◌∙◌, arith, w32, SFits, to_z, of_z}
-use Rattle.std.proofs.lemmas.List.{at_drop_more}
-use Rattle.std.proofs.lemmas.Int.{to_z-of_z}
+use Rattle.std.proofs.Common.{◌≡◌, ℕ, zero, suc, ◌<◌, ◌≤◌, true, false, List, [], ◌∷◌, length, ℤ, pos, negsuc, Err, sym, refl, ◌∙◌, arith}
 use Rattle.store.specs.declared.clauses.PutFault.{PutFault}
 use Rattle.store.specs.declared.clauses.PutFault.TheVariants.{ClauseOutOfLimits, PriceExceedsFree}
 use Rattle.store.specs.Clauses.{is_literal, all_literals, is_clause, Prices, prices_by, cost, Put}
 
--- one more literal looked at
-pub literals-step : (c : List ℤ) (i : ℕ) (b : Bool) → i < length c → SFits w32 (get_or c i (pos 0)) → b ≡ is_literal (to_z w32 (of_z w32 (get_or c i (pos 0)))) → all_literals (drop i c) ≡ cond b (all_literals (drop (i + 1) c)) false
-literals-step c i b h f e =
-    at_drop_more all_literals c i (pos 0) h ∙ ap (λ t. cond t (all_literals (drop (i + 1) c)) false) (sym (e ∙ ap is_literal (to_z-of_z w32 _ f)))
-
--- a clause of one to four numbers is within the limits exactly where each is a literal
-pub clause-is : (c : List ℤ) → 1 ≤ length c → length c ≤ 4 → is_clause c ≡ all_literals c
-clause-is c l h = grind (arith, nat_tests)
-
 pub clause-parts : (c : List ℤ) → is_clause c ≡ true → (1 ≤ length c) × (length c ≤ 4) × (all_literals c ≡ true)
 clause-parts c e = (grind (arith, nat_tests), grind (arith, nat_tests), grind (arith, nat_tests))
 
-both : (x y : Bool) → cond x y false ≡ true → (x ≡ true) × (y ≡ true)
-both true y e = (refl, e)
-both false y e = absurd (let z : false ≡ true = e in grind arith)
-
 pub literals-parts : (z : ℤ) (c : List ℤ) → all_literals (z ∷ c) ≡ true → (is_literal z ≡ true) × (all_literals c ≡ true)
-literals-parts z c e = both (is_literal z) (all_literals c) e
+literals-parts z c e = and_parts (is_literal z) (all_literals c) e
 
 -- literals of a variable's number
 pub literal-pos : (n : ℕ) → 0 < n → n < 100000 → is_literal (pos n) ≡ true
@@ -35,16 +21,16 @@ literal-neg n h = grind (arith, nat_tests)
 
 -- clauses of literals
 pub clause-1 : (a : ℤ) → is_literal a ≡ true → is_clause (a ∷ []) ≡ true
-clause-1 a e = ap (λ t. cond t true false) e
+clause-1 a e = rw e
 
 pub clause-2 : (a b : ℤ) → is_literal a ≡ true → is_literal b ≡ true → is_clause (a ∷ b ∷ []) ≡ true
-clause-2 a b e f = ap (λ t. cond t (all_literals (b ∷ [])) false) e ∙ clause-1 b f
+clause-2 a b e f = rw (e, f)
 
 pub clause-3 : (a b c : ℤ) → is_literal a ≡ true → is_literal b ≡ true → is_literal c ≡ true → is_clause (a ∷ b ∷ c ∷ []) ≡ true
-clause-3 a b c e f g = ap (λ t. cond t (all_literals (b ∷ c ∷ [])) false) e ∙ clause-2 b c f g
+clause-3 a b c e f g = rw (e, f, g)
 
 pub clause-4 : (a b c d : ℤ) → is_literal a ≡ true → is_literal b ≡ true → is_literal c ≡ true → is_literal d ≡ true → is_clause (a ∷ b ∷ c ∷ d ∷ []) ≡ true
-clause-4 a b c d e f g h = ap (λ t. cond t (all_literals (b ∷ c ∷ d ∷ [])) false) e ∙ clause-3 b c d f g h
+clause-4 a b c d e f g h = rw (e, f, g, h)
 
 -- prices by a rule are what the rule says, at one to four literals
 pub cost-by : (rule : ℕ → ℕ) (k : ℕ) → 1 ≤ k → k ≤ 4 → cost (prices_by rule) k ≡ rule k

@@ -64,8 +64,8 @@ fewer-clauses [] = omega arith
 fewer-clauses (c ∷ cs) = omega (arith, fewer-clauses cs, length-append (ended c) (numbers_of cs), length-append c (pos 0 ∷ []))
 
 -- the clause and its 0 are written
-pub clause-written : (b xs c : List ℤ) (at k : ℕ) → k ≡ length c → at + (length c + 1) ≤ length b → xs ≡ c → set (put_mid at k b xs) (at + length c) (pos 0) ≡ take at b ++ (ended c ++ drop (at + (length c + 1)) b)
-clause-written b xs c at k n h e =
+pub clause_written : (b xs c : List ℤ) (at k : ℕ) → k ≡ length c → at + (length c + 1) ≤ length b → xs ≡ c → set (put_mid at k b xs) (at + length c) (pos 0) ≡ take at b ++ (ended c ++ drop (at + (length c + 1)) b)
+clause_written b xs c at k n h e =
     let m : put_mid at k b xs ≡ paste b at c (length c) = put_mid-paste at k b xs c (length c) e (sym n) refl in
     let l : length (paste b at c (length c)) ≡ length b = length-paste b at c (length c) (omega arith) (omega arith) in
     let o : suc (at + length c) ≡ at + length c + 1 = omega arith in

@@ -1,13 +1,13 @@
 -- The text store: what its memory holds at first, and once a clause's line and the header are written.
 use Rattle.std.proofs.lemmas.Bool.Decides.{nat_tests}
-use Rattle.std.proofs.Common.{◌≡◌, ℕ, ◌+◌, ◌-◌, ◌*◌, ◌^◌, ◌<◌, ◌≤◌, min, max, true, false, cond, ltb, List, [], ◌∷◌, ◌++◌, map, length, take, drop, ℤ, pos, nat_abs, sym, ap, ◌∙◌, append_assoc, append-nil, arith}
+use Rattle.std.proofs.Common.{◌≡◌, ℕ, ◌+◌, ◌-◌, ◌*◌, ◌^◌, ◌<◌, ◌≤◌, min, max, true, false, cond, ltb, List, [], ◌∷◌, ◌++◌, map, fold, length, take, drop, ℤ, pos, nat_abs, sym, ap, ◌∙◌, append_assoc, append-nil, arith}
 use Rattle.std.specs.List.{flat_map}
 use Rattle.std.proofs.lemmas.List.{length-append, length_push, length-drop, length-take-le, take_at, drop_at, flat_map_more}
 use Rattle.store.specs.declared.text.TextStore.{TextStore}
 use Rattle.store.specs.Clauses.{all_literals, is_clause, cost, greatest_variable}
 use Rattle.store.specs.Rendering.{field, line_end, line_of, header_of, largest_of, largest_in, text_of, width, header_length, longest_text, shown_in, room_in, text_prices}
 use Rattle.store.specs.ReadBack.{read_line, lines, clauses_of}
-use Rattle.store.specs.Spelling.{rewritten}
+use Rattle.store.specs.Rewriting.{rewritten}
 use Rattle.store.proofs.Meaning.{literals-parts, clause-parts, cost-by}
 use Rattle.store.proofs.Lines.{length-count, length-line}
 use Rattle.store.proofs.Reading.{lines-push}
@@ -22,12 +22,16 @@ pub largest-push : (cs : List (List ℤ)) (c : List ℤ) → largest_in (cs ++ c
 largest-push [] c = omega arith
 largest-push (d ∷ cs) c = ap (max (largest_of d)) (largest-push cs c) ∙ omega arith
 
-pub largest-low : (c : List ℤ) → all_literals c ≡ true → largest_of c ≤ greatest_variable
-largest-low [] a = omega arith
-largest-low (z ∷ c) a =
+pub largest_fold : (c : List ℤ) (n : ℕ) → fold (λ m z. max m (nat_abs z)) n c ≡ max n (largest_of c)
+largest_fold [] n = omega arith
+largest_fold (z ∷ c) n = omega (arith, largest_fold c (max n (nat_abs z)))
+
+pub largest_low : (c : List ℤ) → all_literals c ≡ true → largest_of c ≤ greatest_variable
+largest_low [] a = omega arith
+largest_low (z ∷ c) a =
     let p = literals-parts z c a in
     let h : nat_abs z ≤ 99999 = grind (arith, nat_tests) in
-    omega (arith, largest-low c p.1)
+    omega (arith, largest_low c p.1)
 
 -- a line has one byte at least
 fewer-lines : (cs : List (List ℤ)) → length cs ≤ length (flat_map (line_of width) cs)
@@ -52,7 +56,6 @@ pub record Wrote (d t : List ℕ) (at end largest count : ℕ) (c : List ℤ) : 
   pub shown : take end t ≡ shown_in (length t) (clauses_of (take end t))
   pub counted : count ≡ length (clauses_of (take end t))
   pub greatest : largest ≡ largest_in (clauses_of (take end t))
-  pub low : largest ≤ greatest_variable
   pub beyond : drop end t ≡ drop end d
   pub same_length : length t ≡ length d
 
@@ -102,7 +105,7 @@ module _ (d : List ℕ) (at largest count : ℕ) (w : at ≤ min (length d) long
   -- a clause's line is written, and the header anew
   module _ (c : List ℤ) (a : all_literals c ≡ true) (m : ℕ) (me : m ≡ max largest (largest_of c)) (f : at + (width * length c + 3) ≤ min (length d) longest_text) where
     pub largest-fits : m < 10 ^ width
-    largest-fits = omega (arith, largest-low c a)
+    largest-fits = omega (arith, largest_low c a)
 
     pub count_fits : count + 1 < 10 ^ width
     count_fits = omega (arith, count_low)
@@ -167,42 +170,34 @@ module _ (d : List ℕ) (at largest count : ℕ) (w : at ≤ min (length d) long
 
       pub wrote : Wrote d t at (at + (width * length c + 3)) m (count + 1) c
       unfolding end
-      wrote = record { held = held_more; shown = shown-more; counted = count-more; greatest = largest-more; low = omega (arith, largest-low c a); beyond = same-beyond; same_length = all-length }
+      wrote = record { held = held_more; shown = shown-more; counted = count-more; greatest = largest-more; beyond = same-beyond; same_length = all-length }
 
--- a store o, a clause that it may take, and what `put` works out of them
-module _ (o : TextStore) (c : List ℤ) (free n m : ℕ) (lawful : is_clause c ≡ true) (fe : free ≡ room_in (length o.bytes.now) o.used) (room : width * length c + 3 ≤ free) (ne : n ≡ largest_of c) (me : m ≡ max o.largest n) where
+-- a store o, and a clause that it may take
+module _ (o : TextStore) (c : List ℤ) (lawful : is_clause c ≡ true) (free : cost text_prices (length c) ≤ room_in (length o.bytes.now) o.used) where
+  price : cost text_prices (length c) ≡ width * length c + 3
+  price = let p = clause-parts c lawful in cost-by (λ k. width * k + 3) (length c) p.0 p.1
+
   long : header_length ≤ length o.bytes.now
-  long = room-none (length o.bytes.now) o.used (omega arith)
+  long = room-none (length o.bytes.now) o.used (omega (arith, price))
 
   fits : o.used + (width * length c + 3) ≤ min (length o.bytes.now) longest_text
-  fits = omega (arith, o.within, room-is (length o.bytes.now) o.used long)
+  fits = omega (arith, o.within, price, room-is (length o.bytes.now) o.used long)
 
-  more-largest : m ≡ max o.largest (largest_of c)
-  more-largest = me ∙ ap (max o.largest) ne
+  pub put_behind : header_length ≤ o.used
+  put_behind = at_long o.bytes.now o.used o.header.largest o.header.count o.within o.shown o.counted o.greatest o.header.named long
 
-  pub put-requires : (header_length ≤ o.used) × (o.used + (width * length c + 3) ≤ length o.bytes.now) × (all_literals c ≡ true) × (m < 10 ^ width) × (o.count + 1 < 10 ^ width)
-  put-requires =
-      let a = (clause-parts c lawful).2 in (
-        at_long o.bytes.now o.used o.largest o.count o.within o.shown o.counted o.greatest o.named long,
-        omega (arith, fits),
-        a,
-        largest-fits o.bytes.now o.used o.largest o.count o.within o.shown o.counted o.greatest o.named long c a m more-largest fits,
-        count_fits o.bytes.now o.used o.largest o.count o.within o.shown o.counted o.greatest o.named long c a m more-largest fits,
-      )
+  pub put_few : o.header.count + 1 < 10 ^ width
+  put_few = omega (arith, fits, count_low o.bytes.now o.used o.header.largest o.header.count o.within o.shown o.counted o.greatest o.header.named long)
 
-  pub put-wrote : (t : List ℕ) → t ≡ rewritten o.bytes.now o.used c m (o.count + 1) → Wrote o.bytes.now t o.used (o.used + (width * length c + 3)) m (o.count + 1) c
-  put-wrote t e = wrote o.bytes.now o.used o.largest o.count o.within o.shown o.counted o.greatest o.named long c (clause-parts c lawful).2 m more-largest fits t e
+  pub put-wrote : (m n : ℕ) (t : List ℕ) → m ≡ max o.header.largest (largest_of c) → n ≡ o.header.count + 1 → t ≡ rewritten o.bytes.now o.used c m n → Wrote o.bytes.now t o.used (o.used + (width * length c + 3)) m n c
+  put-wrote m n t me ne e =
+      rw ne (wrote o.bytes.now o.used o.header.largest o.header.count o.within o.shown o.counted o.greatest o.header.named long c (clause-parts c lawful).2 m me fits t (e ∙ ap (rewritten o.bytes.now o.used c m) ne))
 
   pub put-within : (t : List ℕ) → length t ≡ length o.bytes.now → o.used + (width * length c + 3) ≤ min (length t) longest_text
   put-within t e = omega (arith, fits)
 
-  pub put-units : (t : List ℕ) → length t ≡ length o.bytes.now → room_in (length t) (o.used + (width * length c + 3)) ≡ free - cost text_prices (length c)
+  pub put-units : (t : List ℕ) → length t ≡ length o.bytes.now → room_in (length t) (o.used + (width * length c + 3)) ≡ room_in (length o.bytes.now) o.used - cost text_prices (length c)
   put-units t e =
-      let p = clause-parts c lawful in
       ap (λ k. room_in k (o.used + (width * length c + 3))) e
       ∙ room-is (length o.bytes.now) (o.used + (width * length c + 3)) long
-      ∙ omega (arith, room-is (length o.bytes.now) o.used long, cost-by (λ k. width * k + 3) (length c) p.0 p.1)
-
--- the clauses are fewer than the bytes
-pub few-clauses : (o : TextStore) → 0 < room_in (length o.bytes.now) o.used → o.count ≤ longest_text
-few-clauses o h = omega (arith, o.within, count_low o.bytes.now o.used o.largest o.count o.within o.shown o.counted o.greatest o.named (room-none (length o.bytes.now) o.used h))
+      ∙ omega (arith, room-is (length o.bytes.now) o.used long, price)

@@ -1,7 +1,8 @@
 -- What a clause store means: the clauses it may hold, its prices, and what `put` answers and leaves.
 -- A literal is a signed number, a clause a list of literals, and a store is known by the list of clauses that it holds and by
 -- its free units. Everything here is about any kind of store. Assumes nothing.
-use Rattle.std.specs.Prelude.{◌≡◌, ℕ, zero, suc, ◌+◌, ◌-◌, ◌<◌, ◌≤◌, Bool, true, false, cond, List, [], ◌∷◌, ◌++◌, length, ℤ, Ok, Err, Result, nat_le, unsigned_abs}
+use Rattle.std.specs.Prelude.{◌≡◌, ℕ, zero, suc, ◌+◌, ◌-◌, ◌<◌, ◌≤◌, Bool, true, false, ◌&&◌, List, [], ◌∷◌, ◌++◌, length, ℤ, Ok, Err, Result, nat_le, unsigned_abs}
+use Rattle.std.specs.List.{list_all}
 use Rattle.store.specs.declared.clauses.PutFault.{PutFault}
 use Rattle.store.specs.declared.clauses.PutFault.TheVariants.{ClauseOutOfLimits, PriceExceedsFree}
 
@@ -15,19 +16,18 @@ longest_clause = 4
 
 -- From low to high
 abbrev pub in_limits : ℕ → ℕ → ℕ → Bool
-in_limits low high n = cond (nat_le low n) (nat_le n high) false
+in_limits low high n = nat_le low n && nat_le n high
 
 -- A variable, or its negative
 abbrev pub is_literal : ℤ → Bool
 is_literal z = in_limits 1 greatest_variable (unsigned_abs z)
 
 abbrev pub all_literals : List ℤ → Bool
-all_literals [] = true
-all_literals (z ∷ c) = cond (is_literal z) (all_literals c) false
+all_literals c = list_all is_literal c
 
 -- A clause within the limits: one to four literals
 abbrev pub is_clause : List ℤ → Bool
-is_clause c = cond (in_limits 1 longest_clause (length c)) (all_literals c) false
+is_clause c = in_limits 1 longest_clause (length c) && all_literals c
 
 -- The prices that a kind of store fixes, for clauses of one to four literals
 pub record Prices : Type 0 where

@@ -1,6 +1,5 @@
 -- What the inner functions write: for their contracts. No public contract cites it.
-use Rattle.std.specs.Prelude.{ℕ, ◌+◌, ◌*◌, ◌%◌, Bool, cond, List, ◌∷◌, ◌++◌, length, take, drop, ℤ, decimal, nat_lt}
-use Rattle.store.specs.Rendering.{line_of, header_of, width, header_length}
+use Rattle.std.specs.Prelude.{ℕ, zero, suc, ◌+◌, ◌/◌, ◌%◌, Bool, cond, List, [], ◌∷◌, ◌++◌, decimal, nat_lt, ◌&&◌}
 
 -- A number with its sign
 abbrev pub spelled : ℕ → Bool → List ℕ
@@ -10,6 +9,7 @@ spelled n minus = cond minus (45 ∷ decimal n) (decimal n)
 abbrev pub column_byte : ℕ → Bool → ℕ
 column_byte n minus = cond (nat_lt 0 n) (48 + n % 10) (cond minus 45 32)
 
--- The bytes with a clause's line written at `at`, and the header anew
-abbrev pub rewritten : List ℕ → ℕ → List ℤ → ℕ → ℕ → List ℕ
-rewritten bytes at c largest count = header_of width largest count ++ (drop header_length (take at bytes) ++ (line_of width c ++ drop (at + (width * length c + 3)) bytes))
+-- k bytes, from the last on, for what is left of a number: none of them has to be a digit
+abbrev pub filled : ℕ → ℕ → Bool → List ℕ
+filled zero n minus = []
+filled (suc k) n minus = filled k (n / 10) (minus && nat_lt 0 n) ++ column_byte n minus ∷ []

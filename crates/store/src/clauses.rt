@@ -3,7 +3,7 @@
 ghost use Rattle.std.specs.Prelude.{◌≡◌, ℕ, List, [], ◌∷◌, length, ℤ};
 ghost use Rattle.refusal.specs.declared.causes.Refusal.TheVariants.{ClauseOutOfLimits as OutOfLimits, PriceExceedsFree as ExceedsFree};
 ghost use Rattle.store.specs.declared.clauses.PutFault.TheVariants.{ClauseOutOfLimits, PriceExceedsFree};
-ghost use Rattle.store.specs.Clauses.{is_literal, is_clause, Prices, cost, Priced, Put};
+ghost use Rattle.store.specs.Clauses.{is_literal, all_literals, is_clause, Prices, cost, Priced, Put};
 ghost use Rattle.store.specs.Growth.{Growth};
 
 use refusal::{Fault, Refusal};
@@ -38,7 +38,7 @@ impl Fault for PutFault {
 /// units. Each kind fixes a price of 1 to 64 units for a clause of one to four literals.
 pub trait ClauseStore {
     /// The prices of clauses of one to four literals. Code over every kind reads them by `price_list`, which returns these and is tied
-    /// to `prices`.
+    /// to `prices`: the constants of a type with a lifetime can have no clauses yet.
     const PRICE_1: usize;
 
     const PRICE_2: usize;
@@ -78,7 +78,8 @@ pub trait ClauseStore {
         }
     }
 
-    /// Puts a clause at the end, for its price. Refused, the store stays as it was.
+    /// Puts a clause at the end, for its price. Refused, the store stays as it was. Each kind has its own tests in front: written
+    /// here once, they would call a function of the trait that asks something of its caller, and none that is open may.
     fn put(&mut self, clause: &[i32]) -> Result<(), PutFault>
         ensures puts { Put held units prices self.old self.new clause.now result }
         ensures grows { grew self.old self.new };
@@ -96,21 +97,19 @@ pub trait ClauseStore {
 fn is_literal(z: i32) -> bool
     ensures { result ≡ is_literal z }
 {
-    let variable = z.unsigned_abs();
-    1 <= variable && variable <= GREATEST_VARIABLE
+    (1..=GREATEST_VARIABLE).contains(&z.unsigned_abs())
+}
+
+/// Whether each number is a variable or its negative.
+fn all_literals(clause: &[i32]) -> bool
+    ensures { result ≡ all_literals clause.now }
+{
+    clause.iter().all(|z| is_literal(*z))
 }
 
 /// Whether the clause is within the limits: one to four literals.
 pub fn is_clause(clause: &[i32]) -> bool
     ensures { result ≡ is_clause clause.now }
 {
-    if clause.len() < 1 || clause.len() > LONGEST_CLAUSE {
-        return false;
-    }
-    for z in clause {
-        if !is_literal(*z) {
-            return false;
-        }
-    }
-    true
+    (1..=LONGEST_CLAUSE).contains(&clause.len()) && all_literals(clause)
 }

@@ -7,6 +7,7 @@
 
 mod clauses;
 mod columns;
+mod header;
 mod numbers;
 mod text;
 

@@ -1,6 +1,7 @@
 //! The number store: clauses in lent signed numbers, each as its literals and a 0.
 
-ghost use Rattle.std.specs.Prelude.{◌≡◌, ◌+◌, ◌-◌, ◌≤◌, [], ◌∷◌, ◌++◌, length, take, drop};
+ghost use Rattle.std.specs.Prelude.{◌≡◌, true, ◌+◌, ◌-◌, ◌≤◌, [], ◌∷◌, ◌++◌, length, take, drop};
+ghost use Rattle.store.specs.Clauses.{is_clause, cost, Joined};
 ghost use Rattle.store.specs.Growth.{Grown, grown-growth};
 ghost use Rattle.store.specs.Numbers.{ended, numbers_of, clauses_in, number_prices, number_priced};
 
@@ -18,6 +19,7 @@ pub struct NumberStore<'a> {
 }
 
 /// Writes the clause's literals at `start`, and a 0. The other numbers stay.
+#[tactic(auto, using(crate::proofs::Runs::clause_written))]
 fn write_clause(numbers: &mut [i32], start: usize, clause: &[i32])
     requires { start + (length clause.now + 1) ≤ length numbers.old }
     ensures { numbers.new ≡ take start numbers.old ++ (ended clause.now ++ drop (start + (length clause.now + 1)) numbers.old) }
@@ -40,6 +42,20 @@ impl<'a> NumberStore<'a> {
             used: 0,
             count: 0,
         }
+    }
+
+    /// The clause joins the end.
+    fn join(&mut self, clause: &[i32])
+        requires lawful { is_clause clause.now ≡ true }
+        requires room { cost number_prices (length clause.now) ≤ length self.old.numbers.now - self.old.used }
+        ensures joins { Joined (cost number_prices (length clause.now))
+            (clauses_in (take self.old.used self.old.numbers.now)) (clauses_in (take self.new.used self.new.numbers.now))
+            (length self.old.numbers.now - self.old.used) (length self.new.numbers.now - self.new.used) clause.now }
+        ensures grows { Grown (λ s. s.numbers.ghost_name) (λ s. s.numbers.now) (λ s. s.used) self.old self.new }
+    {
+        write_clause(self.numbers, self.used, clause);
+        self.used += clause.len() + 1;
+        self.count += 1;
     }
 
     /// The used numbers: each clause as its literals and a 0.
@@ -82,21 +98,11 @@ impl ClauseStore for NumberStore<'_> {
         if !is_clause(clause) {
             return Err(PutFault::ClauseOutOfLimits);
         }
-        let price = clause.len() + 1;
+        let price = Self::price(clause.len());
         if self.free() < price {
             return Err(PutFault::PriceExceedsFree);
         }
-        let NumberStore {
-            numbers,
-            used,
-            count,
-        } = std::mem::replace(self, NumberStore::new(&mut []));
-        write_clause(numbers, used, clause);
-        *self = NumberStore {
-            numbers,
-            used: used + price,
-            count: count + 1,
-        };
+        self.join(clause);
         Ok(())
     }
 

@@ -1,13 +1,15 @@
 //! The text store: clauses in lent bytes, as a text in the DIMACS CNF form.
 
-ghost use Rattle.std.specs.Prelude.{◌≡◌, ◌-◌, ◌≤◌, min, cond, [], ◌∷◌, length, take, nat_lt};
-ghost use Rattle.store.specs.Clauses.{greatest_variable};
+ghost use Rattle.std.specs.Prelude.{◌≡◌, ◌+◌, ◌-◌, ◌*◌, ◌≤◌, true, min, cond, [], ◌∷◌, length, take, nat_lt};
+ghost use Rattle.store.specs.Clauses.{all_literals, is_clause, cost, Joined};
 ghost use Rattle.store.specs.Growth.{Grown, grown-growth, over};
-ghost use Rattle.store.specs.Rendering.{header_length, longest_text, largest_of, largest_in, shown_in, room_in, text_prices, text_priced};
+ghost use Rattle.store.specs.Rendering.{width, header_length, longest_text, largest_in, shown_in, room_in, text_prices, text_priced};
 ghost use Rattle.store.specs.ReadBack.{clauses_of};
+ghost use Rattle.store.specs.Rewriting.{rewritten};
 
 use super::clauses::{ClauseStore, PutFault, is_clause};
-use super::columns::{HEADER, LINE_END, WIDTH, write_clause, write_header};
+use super::columns::{LINE_END, WIDTH, write_line};
+use super::header::{HEADER, Header};
 
 /// How many of the lent bytes count: those beyond are neither used nor free.
 pub const LONGEST_TEXT: usize = 9_999_999;
@@ -18,24 +20,24 @@ pub const LONGEST_TEXT: usize = 9_999_999;
 pub struct TextStore<'a> {
     bytes: &'a mut [u8],
     used: usize,
-    count: usize,
-    largest: usize,
+    header: Header,
     ghost within: { used ≤ min (length bytes.now) longest_text },
     ghost shown: { take used bytes.now ≡ shown_in (length bytes.now) (clauses_of (take used bytes.now)) },
-    ghost counted: { count ≡ length (clauses_of (take used bytes.now)) },
-    ghost greatest: { largest ≡ largest_in (clauses_of (take used bytes.now)) },
-    ghost named: { largest ≤ greatest_variable },
+    ghost counted: { header.count ≡ length (clauses_of (take used bytes.now)) },
+    ghost greatest: { header.largest ≡ largest_in (clauses_of (take used bytes.now)) },
 }
 
-/// The largest variable of a clause, 0 where it has none.
-fn largest_of(clause: &[i32]) -> usize
-    ensures { result ≡ largest_of clause.now }
+/// Writes the clause's line at `start`, and the header anew. The other bytes stay.
+#[tactic(auto, using(crate::proofs::Lines::line_and_header))]
+fn write_clause(bytes: &mut [u8], start: usize, clause: &[i32], header: Header)
+    requires behind { header_length ≤ start }
+    requires room { start + (width * length clause.now + 3) ≤ length bytes.old }
+    requires lawful { all_literals clause.now ≡ true }
+    ensures { bytes.new ≡ rewritten bytes.old start clause.now header.largest header.count }
 {
-    let mut largest = 0;
-    for z in clause {
-        largest = largest.max(z.unsigned_abs() as usize);
-    }
-    largest
+    let end = start + WIDTH * clause.len() + LINE_END;
+    write_line(&mut bytes[start..end], clause);
+    header.write(&mut bytes[..HEADER]);
 }
 
 impl<'a> TextStore<'a> {
@@ -47,21 +49,38 @@ impl<'a> TextStore<'a> {
         ensures empty { clauses_of (take result.used result.bytes.now) ≡ [] }
         ensures free { room_in (length result.bytes.now) result.used ≡ min (length bytes.old) longest_text - header_length }
     {
+        let header = Header {
+            largest: 0,
+            count: 0,
+        };
         if bytes.len() < HEADER {
             return TextStore {
                 bytes,
                 used: 0,
-                count: 0,
-                largest: 0,
+                header,
             };
         }
-        write_header(&mut bytes[..HEADER], 0, 0);
+        header.write(&mut bytes[..HEADER]);
         TextStore {
             bytes,
             used: HEADER,
-            count: 0,
-            largest: 0,
+            header,
         }
+    }
+
+    /// The clause joins the end, and the header is written anew.
+    fn join(&mut self, clause: &[i32])
+        requires lawful { is_clause clause.now ≡ true }
+        requires room { cost text_prices (length clause.now) ≤ room_in (length self.old.bytes.now) self.old.used }
+        ensures joins { Joined (cost text_prices (length clause.now))
+            (clauses_of (take self.old.used self.old.bytes.now)) (clauses_of (take self.new.used self.new.bytes.now))
+            (room_in (length self.old.bytes.now) self.old.used) (room_in (length self.new.bytes.now) self.new.used) clause.now }
+        ensures grows { Grown (λ s. s.bytes.ghost_name) (λ s. s.bytes.now) (λ s. s.used) self.old self.new }
+    {
+        let header = self.header.joined(clause);
+        write_clause(self.bytes, self.used, clause, header);
+        self.used += WIDTH * clause.len() + LINE_END;
+        self.header = header;
     }
 
     /// The text: the header and a line for each clause.
@@ -104,30 +123,16 @@ impl ClauseStore for TextStore<'_> {
         if !is_clause(clause) {
             return Err(PutFault::ClauseOutOfLimits);
         }
-        let price = WIDTH * clause.len() + LINE_END;
+        let price = Self::price(clause.len());
         if self.free() < price {
             return Err(PutFault::PriceExceedsFree);
         }
-        let TextStore {
-            bytes,
-            used,
-            count,
-            largest,
-        } = std::mem::replace(self, TextStore::new(&mut []));
-        let count = count + 1;
-        let largest = largest.max(largest_of(clause));
-        write_clause(bytes, used, clause, largest, count);
-        *self = TextStore {
-            bytes,
-            used: used + price,
-            count,
-            largest,
-        };
+        self.join(clause);
         Ok(())
     }
 
     fn count(&self) -> usize {
-        self.count
+        self.header.count
     }
 
     fn free(&self) -> usize {

@@ -20,6 +20,7 @@ pub fn put_chain<S: ClauseStore>(store: &mut S, n: u32) -> Result<usize, PutFaul
         return Err(PutFault::PriceExceedsFree);
     }
     store.put(&[1])?;
+    // From 0: over `1..=n` the body is no shorter, since the number is cast there, too.
     for k in 0..n {
         let variable = k as i32 + 1;
         store.put(&[-variable, variable + 1])?;
@@ -33,10 +34,8 @@ pub fn chain_text(bytes: &mut [u8], n: u32) -> Result<usize, PutFault>
     ensures { Laid (shown_in (length bytes.old)) text_prices (min (length bytes.old) longest_text - header_length) n bytes.old bytes.new result }
 {
     let mut store = TextStore::new(bytes);
-    match put_chain(&mut store, n) {
-        Ok(_) => Ok(store.text().len()),
-        Err(fault) => Err(fault),
-    }
+    put_chain(&mut store, n)?;
+    Ok(store.text().len())
 }
 
 /// Puts the chain into a number store over the numbers, whatever they are, and returns how many the chain takes. The numbers
@@ -45,8 +44,6 @@ pub fn chain_numbers(numbers: &mut [i32], n: u32) -> Result<usize, PutFault>
     ensures { Laid numbers_of number_prices (length numbers.old) n numbers.old numbers.new result }
 {
     let mut store = NumberStore::new(numbers);
-    match put_chain(&mut store, n) {
-        Ok(_) => Ok(store.numbers().len()),
-        Err(fault) => Err(fault),
-    }
+    put_chain(&mut store, n)?;
+    Ok(store.numbers().len())
 }

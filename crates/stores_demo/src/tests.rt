@@ -9,51 +9,49 @@ fn same(rt: &impl Abort, left: &[u8], right: &[u8]) {
     assert_eq!(rt; left, right);
 }
 
-/// Puts a clause, which the free units cover, and expects the refusal of that number, 0 for none, and what it leaves.
+/// Puts a clause, which the free units cover, and expects that it is put, or the number of the refusal, and what it leaves.
 fn offer<S: ClauseStore>(
     rt: &impl Abort,
     store: &mut S,
     clause: &[i32],
-    number: u32,
+    expected: Result<(), u32>,
 ) -> Result<(), Fail> {
     let count = store.count();
     let free = store.free();
     let price = S::price(clause.len());
     assert!(rt; price <= free && count < 9);
-    match store.put(clause) {
-        Ok(()) => {
-            assert_eq!(rt; number, 0);
-            assert_eq!(rt; (store.count(), store.free()), (count + 1, free - price));
-            Ok(())
-        }
-        Err(fault) => {
-            assert_eq!(rt; fault.code().number, number);
-            assert_eq!(rt; (store.count(), store.free()), (count, free));
-            Ok(())
-        }
-    }
+    let after = match expected {
+        Ok(()) => (count + 1, free - price),
+        Err(_) => (count, free),
+    };
+    assert_eq!(rt;
+        store.put(clause).map_err(|fault| fault.code().number),
+        expected
+    );
+    assert_eq!(rt; (store.count(), store.free()), after);
+    Ok(())
 }
 
 /// Clauses at the limits, with the number of the refusal.
 fn limits<S: ClauseStore>(rt: &impl Abort, store: &mut S) -> Result<(), Fail> {
     let single = [
-        (1, 0),
-        (-1, 0),
-        (99_999, 0),
-        (-99_999, 0),
-        (0, 17),
-        (100_000, 17),
-        (-100_000, 17),
-        (i32::MAX, 17),
-        (i32::MIN, 17),
+        (1, Ok(())),
+        (-1, Ok(())),
+        (99_999, Ok(())),
+        (-99_999, Ok(())),
+        (0, Err(17)),
+        (100_000, Err(17)),
+        (-100_000, Err(17)),
+        (i32::MAX, Err(17)),
+        (i32::MIN, Err(17)),
     ];
-    for (literal, number) in single {
-        offer(rt, store, &[literal], number)?;
+    for (literal, expected) in single {
+        offer(rt, store, &[literal], expected)?;
     }
-    offer(rt, store, &[], 17)?;
-    offer(rt, store, &[1, -2, 3, -4], 0)?;
-    offer(rt, store, &[1, -2, 3, 0], 17)?;
-    offer(rt, store, &[1, 2, 3, 4, 5], 17)
+    offer(rt, store, &[], Err(17))?;
+    offer(rt, store, &[1, -2, 3, -4], Ok(()))?;
+    offer(rt, store, &[1, -2, 3, 0], Err(17))?;
+    offer(rt, store, &[1, 2, 3, 4, 5], Err(17))
 }
 
 #[test]

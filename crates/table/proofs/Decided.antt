@@ -1,32 +1,30 @@
 -- A plan has no fault exactly if it is valid.
 -- Assumes nothing.
-use Rattle.std.proofs.Common.{◌≡◌, ℕ, zero, suc, ◌<◌, ◌≤◌, Bool, true, false, cond, not, ◌&&◌, ◌||◌, eqb, ltb, leb, ◌≢◌, [], ◌∷◌, length, get_or, Some, None, Option, sym, refl, ap, ◌∙◌, ap₂, inl, inr, arith}
+use Rattle.std.proofs.Common.{◌≡◌, ℕ, suc, ◌<◌, ◌≤◌, Bool, true, false, cond, not, ◌&&◌, ◌||◌, eqb, ltb, leb, ◌≢◌, [], ◌∷◌, length, get_or, Some, None, Option, Result, sym, refl, ap, ◌∙◌, subst, ap₂, inl, inr}
 use Rattle.std.specs.List.{AllByRecursion}
 use Rattle.std.proofs.ByRecursion.{All-get_or}
-use Rattle.std.proofs.lemmas.Bool.{eqb-true, eqb-false, eq-eqb, ne_eqb, ltb-true, lt-ltb, le-leb, and_parts, and_from}
+use Rattle.std.proofs.lemmas.Bool.{eqb-true, eq-eqb, ne_eqb, ltb-true, lt-ltb, le-leb, and_parts, and_from}
 use Rattle.refusal.specs.declared.causes.Obstacle.TheVariants.{RequiredFactFalse, ActionAlreadyOpen, ActionNotOpen, HeldFactDeleted}
 use Rattle.refusal.specs.declared.causes.Unmet.{Unmet}
 use Rattle.refusal.specs.declared.causes.Unmet.TheVariants.{ActionLeftOpen, GoalFactFalse}
-use Rattle.encoding.specs.Ranges.{Each, some}
+use Rattle.encoding.proofs.Ranges.{some-none, none-some}
 use Rattle.encoding.specs.Tables.{Table, events, owner, starts, requires, harms}
 use Rattle.encoding.specs.Plans.{State, Runs, Plan, Before, Rising, after, initially, run, Run, Placed, Valid}
 use Rattle.table.specs.declared.faults.PlanFault.{PlanFault}
 use Rattle.table.specs.declared.faults.PlanFault.TheVariants.{Misplaced, DoesNotRun, WrongEnding}
 use Rattle.table.specs.Entries.{from}
-use Rattle.table.specs.Verdicts.{or_else, on_item, lowest, in_place, comes_before, misplaced, lacks, robs, agenda_obstacle, obstacle, stuck, misses, unmet, plan_fault}
+use Rattle.std.specs.Option.{option_or, option_map}
+use Rattle.table.specs.Verdicts.{lowest, in_place, comes_before, misplaced, lacks, robs, agenda_obstacle, obstacle, stuck, misses, unmet, plan_fault, plan_answer, unless_fault, Decides}
 use Rattle.table.proofs.Keeps.{between}
 use Rattle.table.proofs.Numbers.{or_left, or_right}
 use Rattle.table.proofs.Lowest.{parts_none, none-parts, none_below, below_none}
 
 -- Tests
 
-never : true ≡ false → ⊥
-never h = let z : ◌≡◌ {A = ℕ} 0 1 = cc in omega arith
-
 but-not : (a b : Bool) → (a && not b) ≡ false → a ≡ true → b ≡ true
 but-not true true h k = refl
-but-not true false h k = absurd (never h)
-but-not false b h k = absurd (never (sym k))
+but-not true false h k = absurd (cc)
+but-not false b h k = absurd (cc)
 
 not-both : (a b : Bool) → (a ≡ true → b ≡ true) → (a && not b) ≡ false
 not-both true b h = ap not (h refl)
@@ -34,59 +32,42 @@ not-both false b h = refl
 
 and-false : (a b : Bool) → (a && b) ≡ false → a ≡ true → b ≡ false
 and-false true b h k = h
-and-false false b h k = absurd (never (sym k))
+and-false false b h k = absurd (cc)
 
 false-and : (a b : Bool) → (a ≡ true → b ≡ false) → (a && b) ≡ false
 false-and true b h = h refl
 false-and false b h = refl
 
-or-false : (a b : Bool) → (a || b) ≡ false → (a ≡ false) × (b ≡ false)
-or-false true b h = absurd (never h)
-or-false false b h = (refl, h)
-
-some-false : (n : ℕ) (f : ℕ → Bool) → some n f ≡ false → Each n (λ i. f i ≡ false)
-unfolding some
-some-false zero f h i l u = absurd (omega arith)
-some-false (suc n) f h i l u = go (eqb i (suc n)) refl (λ v. some-false n f (or-false (some n f) (f (suc n)) h).0 i l v) where
-  go : (b : Bool) → eqb i (suc n) ≡ b → (i ≤ n → f i ≡ false) → f i ≡ false
-  go true e r = ap f (eqb-true i (suc n) e) ∙ (or-false (some n f) (f (suc n)) h).1
-  go false e r = let ne = eqb-false i (suc n) e in r (omega arith)
-
-false-some : (n : ℕ) (f : ℕ → Bool) → Each n (λ i. f i ≡ false) → some n f ≡ false
-unfolding some
-false-some zero f h = refl
-false-some (suc n) f h = ap₂ ◌||◌ (false-some n f (λ i l u. h i l (omega arith))) (h (suc n) (omega arith) (omega arith))
-
-item-none : {X Y : Type 0} (f : X → Y) (o : Option X) → on_item f o ≡ None → o ≡ None
+item-none : {X Y : Type 0} (f : X → Y) (o : Option X) → option_map f o ≡ None → o ≡ None
 item-none f None h = refl
-item-none f (Some x) h = absurd (let z : ◌≡◌ {A = ℕ} 0 1 = cc in omega arith)
+item-none f (Some x) h = absurd (cc)
 
-none-item : {X Y : Type 0} (f : X → Y) (o : Option X) → o ≡ None → on_item f o ≡ None
-none-item f o h = ap (on_item f) h
+none-item : {X Y : Type 0} (f : X → Y) (o : Option X) → o ≡ None → option_map f o ≡ None
+none-item f o h = ap (option_map f) h
 
 -- Events
 
 ready_of : (e : ℕ) (s : State) → agenda_obstacle e s ≡ None → s.is_open (owner e) ≡ not (starts e)
 ready_of e s h = go (starts e) (s.is_open (owner e)) h where
   go : (b q : Bool) → cond b (cond q (Some (ActionAlreadyOpen (owner e))) None) (cond q None (Some (ActionNotOpen (owner e)))) ≡ None → q ≡ not b
-  go true true h = absurd (let z : ◌≡◌ {A = ℕ} 0 1 = cc in omega arith)
+  go true true h = absurd (cc)
   go true false h = refl
   go false true h = refl
-  go false false h = absurd (let z : ◌≡◌ {A = ℕ} 0 1 = cc in omega arith)
+  go false false h = absurd (cc)
 
 of-ready : (e : ℕ) (s : State) → s.is_open (owner e) ≡ not (starts e) → agenda_obstacle e s ≡ None
 of-ready e s h = go (starts e) (s.is_open (owner e)) h where
   go : (b q : Bool) → q ≡ not b → cond b (cond q (Some (ActionAlreadyOpen (owner e))) None) (cond q None (Some (ActionNotOpen (owner e)))) ≡ None
-  go true true h = absurd (never h)
+  go true true h = absurd (cc)
   go true false h = refl
   go false true h = refl
-  go false false h = absurd (never (sym h))
+  go false false h = absurd (cc)
 
 module _ (T : Table) (e : ℕ) (s : State) where
   pub runs_of : obstacle T e s ≡ None → Runs T e s
   unfolding harms
   runs_of h =
-      let x = parts_none (on_item RequiredFactFalse (lowest T.facts (lacks T e s))) _ h in
+      let x = parts_none (option_map RequiredFactFalse (lowest T.facts (lacks T e s))) _ h in
       let y = parts_none (agenda_obstacle e s) _ x.1 in
       let lacking = none_below T.facts (lacks T e s) (item-none RequiredFactFalse _ x.0) in
       let robbing = none_below T.actions (robs T e s) (item-none HeldFactDeleted _ y.1) in
@@ -95,7 +76,7 @@ module _ (T : Table) (e : ℕ) (s : State) where
         ready = ready_of e s y.0;
         keeps = λ a l u other busy p v w held.
             let m = and-false (not (eqb a (owner e))) _ (robbing a l u) (ap not (ne_eqb a (owner e) other)) in
-            and-false (T.held a p) (T.deletes e p) (some-false T.facts (λ q. T.held a q && T.deletes e q) (and-false (s.is_open a) _ m busy) p v w) held;
+            and-false (T.held a p) (T.deletes e p) (some-none T.facts (λ q. T.held a q && T.deletes e q) (and-false (s.is_open a) _ m busy) p v w) held;
       }
 
   pub of-runs : Runs T e s → obstacle T e s ≡ None
@@ -105,17 +86,17 @@ module _ (T : Table) (e : ℕ) (s : State) where
       (none-parts _ _ (of-ready e s r.ready)
       (none-item HeldFactDeleted _ (below_none T.actions (robs T e s) (λ a l u.
       false-and (not (eqb a (owner e))) _ (λ other. false-and (s.is_open a) _ (λ busy.
-      false-some T.facts (λ q. T.held a q && T.deletes e q) (λ p v w. false-and (T.held a p) (T.deletes e p) (λ held.
+      none-some T.facts (λ q. T.held a q && T.deletes e q) (λ p v w. false-and (T.held a p) (T.deletes e p) (λ held.
       r.keeps a l u (not_same a (owner e) other) busy p v w held))))))))
     where
       not_same : (a b : ℕ) → not (eqb a b) ≡ true → a ≢ b
-      not_same a b h k = never (sym h ∙ ap not (eq-eqb a b k))
+      not_same a b h k = let w : true ≡ false = sym h ∙ ap not (eq-eqb a b k) in cc
 
 pub run_of : (T : Table) (s : State) (k : ℕ) (π : Plan) → stuck T s k π ≡ None → Run T s π
 unfolding stuck
 run_of T s k [] h = tt
 run_of T s k (x ∷ π) h =
-    let y = parts_none (on_item (DoesNotRun k) (obstacle T x.1 s)) _ h in
+    let y = parts_none (option_map (DoesNotRun k) (obstacle T x.1 s)) _ h in
     (runs_of T x.1 s (item-none (DoesNotRun k) _ y.0), run_of T (after T x.1 s) (suc k) π y.1)
 
 pub of-run : (T : Table) (s : State) (k : ℕ) (π : Plan) → Run T s π → stuck T s k π ≡ None
@@ -161,7 +142,7 @@ of-placed T n x h = and_from _ _ (in-of 1 n x.0 h.0 h.1) (in-of 1 (events T) x.1
 
 passed : (b : Bool) (o : Option ℕ) (k : ℕ) → cond b o (Some k) ≡ None → (b ≡ true) × (o ≡ None)
 passed true o k h = (refl, h)
-passed false o k h = absurd (let z : ◌≡◌ {A = ℕ} 0 1 = cc in omega arith)
+passed false o k h = absurd (cc)
 
 pub order-of : (T : Table) (n : ℕ) (before : ℕ × ℕ) (k : ℕ) (π : Plan) → misplaced T n before k π ≡ None → AllByRecursion (Placed T n) π × RisesFrom before π
 unfolding misplaced
@@ -192,10 +173,10 @@ of_rising T n (x ∷ π) p h = (inl p.0.0, from-rising x π h)
 pub valid-of : (T : Table) (n : ℕ) (π : Plan) → plan_fault T n π ≡ None → Valid T n π
 unfolding plan_fault
 valid-of T n π h =
-    let x = parts_none (on_item Misplaced (misplaced T n (0, 0) 1 π)) _ h in
+    let x = parts_none (option_map Misplaced (misplaced T n (0, 0) 1 π)) _ h in
     let y = parts_none (stuck T (initially T) 1 π) _ x.1 in
     let o = order-of T n (0, 0) 1 π (item-none Misplaced _ x.0) in
-    let z = parts_none (on_item ActionLeftOpen (lowest T.actions (run T (initially T) π).is_open)) _ (item-none WrongEnding _ y.1) in
+    let z = parts_none (option_map ActionLeftOpen (lowest T.actions (run T (initially T) π).is_open)) _ (item-none WrongEnding _ y.1) in
     record {
       placed = o.0;
       rising = rising-of π o.1;
@@ -212,11 +193,11 @@ of-valid T n π v =
     (none-item WrongEnding _ (none-parts _ _ (none-item ActionLeftOpen _ (below_none T.actions (run T (initially T) π).is_open v.closed))
     (none-item GoalFactFalse _ (below_none T.facts (misses T (run T (initially T) π)) (λ p l u. not-both (T.goal p) _ (v.goals p l u)))))))
 
-pub valid-if : (T : Table) (n : ℕ) (π : Plan) (o : Option PlanFault) → o ≡ plan_fault T n π → o ≡ None → Valid T n π
-valid-if T n π o e h = valid-of T n π (sym e ∙ h)
-
-pub if-valid : (T : Table) (n : ℕ) (π : Plan) (o : Option PlanFault) → o ≡ plan_fault T n π → Valid T n π → o ≡ None
-if-valid T n π o e v = e ∙ of-valid T n π v
+pub decided : (T : Table) (n : ℕ) (π : Plan) (r : Result (Unit {0}) PlanFault) → r ≡ plan_answer T n π → Decides T n π r
+decided T n π r e = subst (Decides T n π) (sym e) (go (plan_fault T n π) refl) where
+  go : (o : Option PlanFault) → plan_fault T n π ≡ o → Decides T n π (unless_fault tt o)
+  go None h = (λ k. valid-of T n π h, λ v. refl)
+  go (Some f) h = (λ k. absurd (cc), λ v. let w = sym h ∙ of-valid T n π v in absurd (cc))
 
 -- The fault, by what was found
 
@@ -224,20 +205,20 @@ module _ (T : Table) (n : ℕ) (π : Plan) where
   pub at_pair : (place : ℕ) → Some place ≡ misplaced T n (0, 0) 1 π → Some (Misplaced place) ≡ plan_fault T n π
   unfolding plan_fault
   at_pair place h =
-      ap (λ (m : Option ℕ). or_else (on_item Misplaced m) (or_else (stuck T (initially T) 1 π) (on_item WrongEnding (unmet T (run T (initially T) π))))) h
+      ap (λ (m : Option ℕ). option_or (option_map Misplaced m) (option_or (stuck T (initially T) 1 π) (option_map WrongEnding (unmet T (run T (initially T) π))))) h
 
   module _ (ordered : None ≡ misplaced T n (0, 0) 1 π) where
-    in_order : or_else (stuck T (initially T) 1 π) (on_item WrongEnding (unmet T (run T (initially T) π))) ≡ plan_fault T n π
+    in_order : option_or (stuck T (initially T) 1 π) (option_map WrongEnding (unmet T (run T (initially T) π))) ≡ plan_fault T n π
     unfolding plan_fault
     in_order =
-        ap (λ (m : Option ℕ). or_else (on_item Misplaced m) (or_else (stuck T (initially T) 1 π) (on_item WrongEnding (unmet T (run T (initially T) π))))) ordered
+        ap (λ (m : Option ℕ). option_or (option_map Misplaced m) (option_or (stuck T (initially T) 1 π) (option_map WrongEnding (unmet T (run T (initially T) π))))) ordered
 
     pub at-event : (f : PlanFault) → stuck T (initially T) 1 π ≡ Some f → Some f ≡ plan_fault T n π
-    at-event f h = ap (λ (m : Option PlanFault). or_else m (on_item WrongEnding (unmet T (run T (initially T) π)))) (sym h) ∙ in_order
+    at-event f h = ap (λ (m : Option PlanFault). option_or m (option_map WrongEnding (unmet T (run T (initially T) π)))) (sym h) ∙ in_order
 
-    pub at-end : stuck T (initially T) 1 π ≡ None → (s : State) → s ≡ run T (initially T) π → (u : Option Unmet) → u ≡ unmet T s → on_item WrongEnding u ≡ plan_fault T n π
+    pub at-end : stuck T (initially T) 1 π ≡ None → (s : State) → s ≡ run T (initially T) π → (u : Option Unmet) → u ≡ unmet T s → option_map WrongEnding u ≡ plan_fault T n π
     at-end h s e u k =
-        ap (on_item WrongEnding) k ∙ ap₂ (λ (m : Option PlanFault) (v : State). or_else m (on_item WrongEnding (unmet T v))) (sym h) e ∙ in_order
+        ap (option_map WrongEnding) k ∙ ap₂ (λ (m : Option PlanFault) (v : State). option_or m (option_map WrongEnding (unmet T v))) (sym h) e ∙ in_order
 
     -- every event of a plan in order is one of the table's
     pub events-within : (k : ℕ) → k < length π → (get_or π k (0, 0)).1 ≤ events T

@@ -3,6 +3,7 @@
 use Rattle.std.proofs.Common.{◌≡◌, ℕ, ◌<◌, ◌≤◌, Bool, true, false, cond, not, ◌&&◌, ◌||◌, eqb, leb, ◌⊎◌, Ok, Err, Result, sym, refl, ◌∙◌, subst, inl, inr, arith}
 use Rattle.std.proofs.lemmas.Bool.{eqb-true, eq-eqb, leb-true, and_parts, and_left, and_from, not-false}
 use Rattle.encoding.specs.Ranges.{some}
+use Rattle.encoding.proofs.Ranges.{or-false-parts}
 use Rattle.table.specs.declared.faults.SizeFault.TheVariants.{OutOfLimits, AfterNote}
 use Rattle.table.specs.declared.faults.NoteFault.TheVariants.{ActionOutOfLimits, FactOutOfLimits, Repeated, Clashes}
 use Rattle.table.specs.declared.roles.Role.{Role}
@@ -13,7 +14,7 @@ use Rattle.table.specs.Calls.{size_answer, clashing, role_answer, granted}
 use Rattle.table.proofs.Numbers.{same-role, some_of, some-role, or_left, or_right}
 
 passes : {F : Type 0} (b : Bool) (e : F) (x : Result (Unit {0}) F) → cond b (Err e) x ≡ Ok tt → (b ≡ false) × (x ≡ Ok tt)
-passes true e x h = absurd (let z : ◌≡◌ {A = ℕ} 0 1 = cc in omega arith)
+passes true e x h = absurd (cc)
 passes false e x h = (refl, h)
 
 -- what a granted note meets
@@ -61,24 +62,20 @@ never-more noted r a p t u ne ht hu old b q = go (same r a p t b q) (same r a p 
   go false true e k = let m = same_true r a p u b q k in let h : noted t b q ≡ false = (let h = hu (sym m.0) in cc) in and_left (noted t b q) true h
   go false false e k = old b q
 
-or-none : (x y : Bool) → (x || y) ≡ false → (x ≡ false) × (y ≡ false)
-or-none true y h = (h, absurd (let z : ◌≡◌ {A = ℕ} 0 1 = cc in omega arith))
-or-none false y h = (refl, h)
-
 distinct : (t u : Role) → same_role t u ≡ false → t ≡ u → ⊥
-distinct t u h e = let k : same_role t t ≡ true = eq-eqb _ _ refl in let z : ◌≡◌ {A = ℕ} 0 1 = cc in omega arith
+distinct t u h e = let k : same_role t t ≡ true = eq-eqb _ _ refl in cc
 
 -- each clash that a note is refused for
 pub apart_more : (E : Entries) (r : Role) (a p : ℕ) → clashing E r a p ≡ false → Apart E.noted → Apart (more E.noted r a p)
 apart_more E r a p h old = (
   never-more E.noted r a p StartAdds StartDeletes (distinct StartAdds StartDeletes refl)
       (λ e. subst (λ (s : Role). clashing E s a p ≡ false) e h)
-      (λ e. (or-none _ _ (subst (λ (s : Role). clashing E s a p ≡ false) e h)).0) old.0,
+      (λ e. (or-false-parts _ _ (subst (λ (s : Role). clashing E s a p ≡ false) e h)).0) old.0,
   never-more E.noted r a p EndAdds EndDeletes (distinct EndAdds EndDeletes refl)
       (λ e. subst (λ (s : Role). clashing E s a p ≡ false) e h)
       (λ e. subst (λ (s : Role). clashing E s a p ≡ false) e h) old.1,
   never-more E.noted r a p StartDeletes Held (distinct StartDeletes Held refl)
-      (λ e. (or-none _ _ (subst (λ (s : Role). clashing E s a p ≡ false) e h)).1)
+      (λ e. (or-false-parts _ _ (subst (λ (s : Role). clashing E s a p ≡ false) e h)).1)
       (λ e. subst (λ (s : Role). clashing E s a p ≡ false) e h) old.2,
 )
 
@@ -138,7 +135,7 @@ within-sized f n g m noted s none w r a p = go (noted r a p) refl where
   go : (b : Bool) → noted r a p ≡ b → implies b (placed g m r a p) ≡ true
   go true e =
       let h : placed f n r a p ≡ true = (let k = w r a p in subst (λ x. implies x (placed f n r a p) ≡ true) e k) in
-      let t = some-note f n noted r a p s h e in absurd (let z : ◌≡◌ {A = ℕ} 0 1 = cc in omega arith)
+      let t = some-note f n noted r a p s h e in absurd (cc)
   go false e = refl
 
 -- answers and what follows them

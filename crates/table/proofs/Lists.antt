@@ -1,8 +1,10 @@
 -- Lists of what is the same throughout, and lists with one element replaced.
 -- Assumes nothing.
-use Rattle.std.proofs.Common.{◌≡◌, ℕ, zero, suc, ◌<◌, Bool, true, false, not, ◌&&◌, ◌||◌, eqb, ltb, List, length, get_or, set, replicate, sym, refl, ap, ◌∙◌, subst, ap₂, arith, get_or-set_other, get_or-set_same}
-use Rattle.std.proofs.lemmas.Bool.{eqb-true, eqb-false, ltb-true, ltb-false}
-use Rattle.std.proofs.lemmas.List.{get_or_past}
+use Rattle.std.proofs.Common.{◌≡◌, ℕ, zero, suc, ◌+◌, ◌<◌, ◌≤◌, Bool, true, false, ◌&&◌, ◌||◌, eqb, List, length, get_or, set, replicate, sym, refl, ap, ◌∙◌, subst, arith, get_or-set_other, get_or-set_same}
+use denote.Param.Members.{Mut}
+use Rattle.std.specs.Array.{IsFromFnResultFrom}
+use Rattle.std.specs.Fn.{Called}
+use Rattle.std.proofs.lemmas.Bool.{eqb-true, eqb-false}
 
 -- what x and the default have, each element of a list of x alone has
 pub all_same : {X : Type 0} (P : X → Type 0) (n : ℕ) (x d : X) → P x → P d → (i : ℕ) → P (get_or (replicate n x) i d)
@@ -19,14 +21,14 @@ set_at f xs i j y d t h e = go (eqb j i) refl where
       subst (λ m. f (get_or (set xs i y) m d) ≡ (t || f (get_or xs m d))) (sym (eqb-true j i k)) (ap f (get_or-set_same xs i y d h) ∙ e)
   go false k = ap f (get_or-set_other xs i j y d (eqb-false j i k))
 
--- lists of one length, of which the first is at each place made from the others
-pub everywhere : (n : ℕ) (xs zs bs ds : List Bool) → length xs ≡ n → length zs ≡ n → length bs ≡ n → length ds ≡ n
-    → ((k : ℕ) → k < n → get_or xs k false ≡ (get_or zs k false || (get_or bs k false && not (get_or ds k false))))
-    → (i : ℕ) → get_or xs i false ≡ (get_or zs i false || (get_or bs i false && not (get_or ds i false)))
-everywhere n xs zs bs ds u v w z h i = go (ltb i n) refl where
-  go : (b : Bool) → ltb i n ≡ b → get_or xs i false ≡ (get_or zs i false || (get_or bs i false && not (get_or ds i false)))
-  go true e = h i (ltb-true i n e)
-  go false e =
-      let l = ltb-false i n e in
-      let p = get_or_past xs i false (omega arith) in let q = get_or_past zs i false (omega arith) in let r = get_or_past bs i false (omega arith) in
-      p ∙ sym (ap₂ (λ x y. x || (y && not (get_or ds i false))) q r)
+-- what an array made from its places has at each
+module _ {F B : Type 0} (g : Mut F (ℕ × Unit {0}) B) (f : F) (at : ℕ → B) (says : (i : ℕ) (b : B) (q : F) → Called g f (i, tt) b q → (q ≡ f) × (b ≡ at i)) where
+  pub made : (ys : List B) (i n : ℕ) → IsFromFnResultFrom g f ys i n → (k : ℕ) (d : B) → i ≤ k → k < i + n → get_or ys k d ≡ at k
+  made ys i zero h k d l u = absurd (omega arith)
+  made ys i (suc n) h k d l u =
+      let w = says i h.1 h.0 h.3 in
+      let rest = subst (λ p. IsFromFnResultFrom g p ys (i + 1) n) w.0 h.4 in
+      go (eqb k i) refl (λ v. made ys (i + 1) n rest k d v (omega arith)) where
+        go : (b : Bool) → eqb k i ≡ b → (i + 1 ≤ k → get_or ys k d ≡ at k) → get_or ys k d ≡ at k
+        go true e later = subst (λ j. get_or ys j d ≡ at j) (sym (eqb-true k i e)) (h.2.1 d ∙ (says i h.1 h.0 h.3).1)
+        go false e later = let ne = eqb-false k i e in later (omega arith)

@@ -1,8 +1,9 @@
 -- Roles and their numbers, and notes of some role.
 -- Assumes nothing.
-use Rattle.std.proofs.Common.{◌≡◌, ℕ, zero, suc, ◌<◌, ◌≤◌, Bool, true, false, cond, ◌&&◌, ◌||◌, eqb, Some, None, Option, sym, refl, ap, ◌∙◌, arith}
+use Rattle.std.proofs.Common.{◌≡◌, ℕ, zero, suc, ◌<◌, ◌≤◌, Bool, true, false, cond, ◌||◌, eqb, Some, None, Option, Ok, ok_or, sym, refl, ap, ◌∙◌, arith}
 use Rattle.std.proofs.lemmas.Bool.{eqb-true, eqb-false}
 use Rattle.encoding.specs.Ranges.{some}
+use Rattle.table.specs.declared.faults.NoteFault.TheVariants.{RoleOutOfLimits}
 use Rattle.table.specs.declared.roles.Role.{Role}
 use Rattle.table.specs.declared.roles.Role.TheVariants.{Initial, Goal, StartNeeds, StartAdds, StartDeletes, EndNeeds, EndAdds, EndDeletes, Held}
 use Rattle.table.specs.Roles.{number_of, role_of, same_role, some_role}
@@ -40,7 +41,11 @@ role-number n r h =
     first-role n r 1 Initial _ refl h (λ h. first-role n r 2 Goal _ refl h (λ h. first-role n r 3 StartNeeds _ refl h
     (λ h. first-role n r 4 StartAdds _ refl h (λ h. first-role n r 5 StartDeletes _ refl h (λ h. first-role n r 6 EndNeeds _ refl h
     (λ h. first-role n r 7 EndAdds _ refl h (λ h. first-role n r 8 EndDeletes _ refl h (λ h. first-role n r 9 Held _ refl h
-    (λ h. absurd (let z : ◌≡◌ {A = ℕ} 0 1 = cc in omega arith))))))))))
+    (λ h. absurd (cc))))))))))
+
+-- the role that try_from gives
+pub named : (r : Role) (o : Option Role) → Ok r ≡ ok_or o RoleOutOfLimits → Some r ≡ o
+named r o h = grind arith
 
 pub number_small : (r : Role) → number_of r < 10
 number_small Initial = omega arith
@@ -55,13 +60,9 @@ number_small Held = omega arith
 
 -- tests that some number or some role passes
 
-pub and-true : (b : Bool) → (b && true) ≡ b
-and-true true = refl
-and-true false = refl
-
 pub or_left : (a b : Bool) → a ≡ true → (a || b) ≡ true
 or_left true b h = refl
-or_left false b h = absurd (let z : ◌≡◌ {A = ℕ} 0 1 = cc in omega arith)
+or_left false b h = absurd (cc)
 
 pub or_right : (a b : Bool) → b ≡ true → (a || b) ≡ true
 or_right true b h = refl

@@ -1,7 +1,9 @@
 -- Why a plan is not valid: the first cause in the order of the checks, with the lowest fact or action to blame.
 -- `plan_answer` says it of every list of pairs; `Decides` says that it grants exactly the valid plans.
 -- Assumes nothing.
-use Rattle.std.specs.Prelude.{◌≡◌, ℕ, zero, suc, Bool, true, cond, not, ◌&&◌, ◌||◌, [], ◌∷◌, Some, None, Ok, Err, Option, Result, ◌==◌, nat_lt}
+use Rattle.std.specs.Prelude.{◌≡◌, ℕ, zero, suc, Bool, cond, not, ◌&&◌, ◌||◌, [], ◌∷◌, Some, None, Ok, Err, Option, Result, ◌==◌, nat_lt}
+use Rattle.std.specs.List.{list_all}
+use Rattle.std.specs.Option.{option_or, option_map}
 use Rattle.refusal.specs.declared.causes.Obstacle.{Obstacle}
 use Rattle.refusal.specs.declared.causes.Obstacle.TheVariants.{RequiredFactFalse, ActionAlreadyOpen, ActionNotOpen, HeldFactDeleted}
 use Rattle.refusal.specs.declared.causes.Unmet.{Unmet}
@@ -14,18 +16,10 @@ use Rattle.table.specs.declared.states.State.{State as Memory}
 use Rattle.table.specs.Entries.{from}
 use Rattle.table.specs.States.{state_of}
 
-abbrev pub or_else : {X : Type 0} → Option X → Option X → Option X
-or_else (Some x) o = Some x
-or_else None o = o
-
-abbrev pub on_item : {X Y : Type 0} → (X → Y) → Option X → Option Y
-on_item f (Some x) = Some (f x)
-on_item f None = None
-
 -- the lowest of 1 .. n at which f holds, if any
 unfoldable pub lowest : ℕ → (ℕ → Bool) → Option ℕ
 lowest zero f = None
-lowest (suc n) f = or_else (lowest n f) (cond (f (suc n)) (Some (suc n)) None)
+lowest (suc n) f = option_or (lowest n f) (cond (f (suc n)) (Some (suc n)) None)
 
 -- Pairs
 
@@ -62,14 +56,14 @@ agenda_obstacle e s =
 -- why event e does not run in a state, if it does not
 abbrev pub obstacle : Table → ℕ → State → Option Obstacle
 obstacle T e s =
-    or_else (on_item RequiredFactFalse (lowest T.facts (lacks T e s)))
-    (or_else (agenda_obstacle e s)
-    (on_item HeldFactDeleted (lowest T.actions (robs T e s))))
+    option_or (option_map RequiredFactFalse (lowest T.facts (lacks T e s)))
+    (option_or (agenda_obstacle e s)
+    (option_map HeldFactDeleted (lowest T.actions (robs T e s))))
 
 -- the first event that does not run in its turn; places count on from k
 unfoldable pub stuck : Table → State → ℕ → Plan → Option PlanFault
 stuck T s k [] = None
-stuck T s k (x ∷ π) = or_else (on_item (DoesNotRun k) (obstacle T x.1 s)) (stuck T (after T x.1 s) (suc k) π)
+stuck T s k (x ∷ π) = option_or (option_map (DoesNotRun k) (obstacle T x.1 s)) (stuck T (after T x.1 s) (suc k) π)
 
 -- The end
 
@@ -78,15 +72,15 @@ abbrev pub misses : Table → State → ℕ → Bool
 misses T s p = T.goal p && not (s.holds p)
 
 abbrev pub unmet : Table → State → Option Unmet
-unmet T s = or_else (on_item ActionLeftOpen (lowest T.actions s.is_open)) (on_item GoalFactFalse (lowest T.facts (misses T s)))
+unmet T s = option_or (option_map ActionLeftOpen (lowest T.actions s.is_open)) (option_map GoalFactFalse (lowest T.facts (misses T s)))
 
 -- The whole plan: all pairs are looked at before any event runs, and all events before the end
 
 unfoldable pub plan_fault : Table → ℕ → Plan → Option PlanFault
 plan_fault T n π =
-    or_else (on_item Misplaced (misplaced T n (0, 0) 1 π))
-    (or_else (stuck T (initially T) 1 π)
-    (on_item WrongEnding (unmet T (run T (initially T) π))))
+    option_or (option_map Misplaced (misplaced T n (0, 0) 1 π))
+    (option_or (stuck T (initially T) 1 π)
+    (option_map WrongEnding (unmet T (run T (initially T) π))))
 
 abbrev pub unless_fault : {X : Type 0} → X → Option PlanFault → Result X PlanFault
 unless_fault x None = Ok x
@@ -96,9 +90,8 @@ abbrev pub plan_answer : Table → ℕ → Plan → Result (Unit {0}) PlanFault
 plan_answer T n π = unless_fault tt (plan_fault T n π)
 
 -- whether each event is one of the table's
-unfoldable pub events_in : Table → Plan → Bool
-events_in T [] = true
-events_in T (x ∷ π) = from 1 (events T) x.1 && events_in T π
+abbrev pub events_in : Table → Plan → Bool
+events_in T π = list_all (λ x. from 1 (events T) x.1) π
 
 -- the events run, and this is the state after them; or one is stuck
 abbrev pub Played : Table → Plan → Result Memory PlanFault → Type 0

@@ -1,4 +1,4 @@
-//! Events: event 2a - 1 starts action a, and event 2a ends it.
+//! Events: event 2a - 1 starts action a, and event 2a ends it. An event is its number: plans, variables and texts name it so.
 
 ghost use Rattle.std.specs.Prelude.{◌≡◌};
 ghost use Rattle.encoding.specs.Tables.{owner as owner_of, starts as is_start};
@@ -7,7 +7,7 @@ ghost use Rattle.encoding.specs.Tables.{owner as owner_of, starts as is_start};
 pub fn owner(event: u32) -> u32
     ensures { result ≡ owner_of event }
 {
-    event / 2 + event % 2
+    event.div_ceil(2)
 }
 
 /// Whether the event is a start.

@@ -4,6 +4,9 @@
 ghost use Rattle.std.specs.Prelude.{◌≡◌, ℕ, false, not, ◌&&◌, ◌||◌, if◌then◌else◌, nat_eq, nat_lt};
 ghost use Rattle.table.specs.Memory.{marked};
 
+use crate::limits::FACT_PLACES;
+use std::array;
+
 #[derive(Clone, Copy)]
 pub(crate) struct Marks<const N: usize> {
     marks: [bool; N],
@@ -20,39 +23,32 @@ impl<const N: usize> Marks<N> {
     pub(crate) fn has(&self, number: u32) -> bool
         ensures { result ≡ marked self.now number }
     {
-        let marks: &[bool] = &self.marks;
-        let place = number as usize;
-        if place < marks.len() {
-            marks[place]
-        } else {
-            false
-        }
+        self.marks.get(number as usize).copied().unwrap_or(false)
     }
 
     /// Puts the number in or takes it out. A number that the set has no place for changes nothing.
     pub(crate) fn put(&mut self, number: u32, present: bool)
         ensures { (i : ℕ) → marked self.new i ≡ (if nat_eq i number && nat_lt number N then present else marked self.old i) }
     {
+        // tried with get_mut: where it gives None, that there are N places stays open
         let place = number as usize;
         if place < N {
             self.marks[place] = present;
         }
     }
-
-    /// The set without what is deleted, and with what is added.
-    pub(crate) fn changed(self, adds: Marks<N>, deletes: Marks<N>) -> Marks<N>
-        ensures { (i : ℕ) → marked result i ≡ (marked adds.entry i || (marked self.entry i && not (marked deletes.entry i))) }
-    {
-        let mut marks = [false; N];
-        for i in 0..N {
-            marks[i] = after_change(adds.marks[i], deletes.marks[i], self.marks[i]);
-        }
-        Marks { marks }
-    }
 }
 
-fn after_change(adds: bool, deletes: bool, before: bool) -> bool
-    ensures { result ≡ (adds || (before && not deletes)) }
-{
-    adds || (before && !deletes)
+impl Marks<FACT_PLACES> {
+    /// The facts without what is deleted, and with what is added.
+    pub(crate) fn changed(
+        self,
+        adds: Marks<FACT_PLACES>,
+        deletes: Marks<FACT_PLACES>,
+    ) -> Marks<FACT_PLACES>
+        ensures { (i : ℕ) → marked result i ≡ (marked adds i || (marked self i && not (marked deletes i))) }
+    {
+        Marks {
+            marks: array::from_fn(|i| adds.marks[i] || (self.marks[i] && !deletes.marks[i])),
+        }
+    }
 }

@@ -25,31 +25,23 @@ impl Notes {
     pub(crate) fn facts(&self, action: u32) -> Marks<FACT_PLACES>
         ensures { (p : ℕ) → marked result p ≡ noted self.now action p }
     {
-        let rows: &[Marks<FACT_PLACES>] = &self.of;
-        let place = action as usize;
-        if place < rows.len() {
-            rows[place]
-        } else {
-            Marks::none()
-        }
+        self.of
+            .get(action as usize)
+            .copied()
+            .unwrap_or_else(Marks::none)
     }
 
     pub(crate) fn has(&self, action: u32, fact: u32) -> bool
         ensures { result ≡ noted self.now action fact }
     {
-        let rows: &[Marks<FACT_PLACES>] = &self.of;
-        let place = action as usize;
-        if place < rows.len() {
-            rows[place].has(fact)
-        } else {
-            false
-        }
+        self.facts(action).has(fact)
     }
 
     /// Adds a note. One that there is no place for changes nothing.
     pub(crate) fn add(&mut self, action: u32, fact: u32)
         ensures { (a p : ℕ) → noted self.new a p ≡ ((a == action && (nat_lt action 17 && (p == fact && nat_lt fact 33))) || noted self.old a p) }
     {
+        // tried with get_mut: where it gives None, that there are all these places stays open
         let place = action as usize;
         if place < ACTION_PLACES {
             self.of[place].put(fact, true);

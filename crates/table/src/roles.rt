@@ -1,9 +1,12 @@
-//! The roles of a note: what it says of its fact.
+//! The roles of a note: what it says of its fact. They compare as their numbers do.
 
-ghost use Rattle.std.specs.Prelude.{◌≡◌};
+ghost use Rattle.std.specs.Prelude.{◌≡◌, ok_or};
+ghost use Rattle.table.specs.declared.faults.NoteFault.TheVariants.{RoleOutOfLimits};
 ghost use Rattle.table.specs.Roles.{role_of, number_of};
 
-#[derive(Clone, Copy, PartialEq, Eq, Debug)]
+use crate::faults::NoteFault;
+
+#[derive(Clone, Copy, PartialEq, Eq, PartialOrd, Ord, Debug)]
 pub enum Role {
     /// the fact is true at the beginning
     Initial = 1,
@@ -19,38 +22,31 @@ pub enum Role {
     Held = 9,
 }
 
-impl Role {
-    /// The role of a number, from 1 to 9.
-    pub(crate) fn numbered(number: u32) -> Option<Role>
-        ensures { result ≡ role_of number }
-    {
+impl TryFrom<u32> for Role {
+    type Error = NoteFault;
+
+    ghost try_from_gives = { λ number answer. answer ≡ ok_or (role_of number) RoleOutOfLimits };
+
+    fn try_from(number: u32) -> Result<Role, NoteFault> {
         match number {
-            1 => Some(Role::Initial),
-            2 => Some(Role::Goal),
-            3 => Some(Role::StartNeeds),
-            4 => Some(Role::StartAdds),
-            5 => Some(Role::StartDeletes),
-            6 => Some(Role::EndNeeds),
-            7 => Some(Role::EndAdds),
-            8 => Some(Role::EndDeletes),
-            9 => Some(Role::Held),
-            _ => None,
+            1 => Ok(Role::Initial),
+            2 => Ok(Role::Goal),
+            3 => Ok(Role::StartNeeds),
+            4 => Ok(Role::StartAdds),
+            5 => Ok(Role::StartDeletes),
+            6 => Ok(Role::EndNeeds),
+            7 => Ok(Role::EndAdds),
+            8 => Ok(Role::EndDeletes),
+            9 => Ok(Role::Held),
+            _ => Err(NoteFault::RoleOutOfLimits),
         }
     }
+}
 
-    pub fn number(self) -> u32
-        ensures { result ≡ number_of self }
-    {
-        match self {
-            Role::Initial => 1,
-            Role::Goal => 2,
-            Role::StartNeeds => 3,
-            Role::StartAdds => 4,
-            Role::StartDeletes => 5,
-            Role::EndNeeds => 6,
-            Role::EndAdds => 7,
-            Role::EndDeletes => 8,
-            Role::Held => 9,
-        }
+impl From<Role> for u32 {
+    ghost from_gives = { λ role number. number ≡ number_of role };
+
+    fn from(role: Role) -> u32 {
+        role as u32
     }
 }

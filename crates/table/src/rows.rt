@@ -17,9 +17,9 @@ use crate::notes::Notes;
 pub struct Table {
     facts: u32,
     actions: u32,
-    // the notes of each role, by its number
+    // the notes of each role, by its number; place 0 stays free, which is plainer than to shift each number
     rows: [Notes; ROLE_PLACES],
-    // whether there is any note
+    // whether there is any note: to look for one anew would walk all places of all roles at each size
     begun: bool,
     ghost sizes: { Sizes facts actions },
     ghost within: { Within facts actions (noted_in rows) },

@@ -8,7 +8,6 @@ pub mod Joins
 pub mod Letters
 pub mod Steps
 pub mod Rows
-pub mod Walks
 pub mod Codes
 pub mod Runs
 pub mod Once

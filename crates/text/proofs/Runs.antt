@@ -1,5 +1,5 @@
 -- Lines one after another: how the end of reading what is left makes the end of reading it all.
-use Rattle.std.proofs.Common.{◌≡◌, ℕ, ◌+◌, ◌-◌, ◌<◌, ◌≤◌, true, List, [], ◌∷◌, ◌++◌, length, Some, None, Ok, Err, Option, Result, sym, refl, ap, ◌∙◌, subst, inl, inr, append_assoc, append-nil, arith, length-append}
+use Rattle.std.proofs.Common.{◌≡◌, ℕ, ◌+◌, ◌-◌, ◌≤◌, true, List, [], ◌∷◌, ◌++◌, length, Some, None, Ok, Err, Option, Result, MatchResult, sym, refl, ap, ◌∙◌, subst, append_assoc, append-nil, arith, length-append}
 use Rattle.table.specs.declared.roles.Role.{Role}
 use Rattle.table.specs.declared.roles.Role.TheVariants.{Initial, Goal, StartNeeds, StartAdds, StartDeletes, EndNeeds, EndAdds, EndDeletes, Held}
 use Rattle.table.specs.declared.faults.SizeFault.{SizeFault}
@@ -11,16 +11,14 @@ use Rattle.text.specs.declared.cursor.Reader.{Reader}
 use Rattle.text.specs.declared.faults.LineFault.{LineFault}
 use Rattle.text.specs.declared.faults.Stop.{Stop}
 use Rattle.text.specs.declared.faults.Stop.TheVariants.{Malformed, Refused as RefusedAt}
-use Rattle.text.specs.declared.faults.RefusedLine.{RefusedLine}
 use Rattle.text.specs.declared.faults.TableFault.{TableFault}
 use Rattle.text.specs.declared.lines.Line.{Line}
 use Rattle.text.specs.declared.lines.Line.TheVariants.{Sizes, Note}
 use Rattle.text.specs.declared.tags.Tag.TheVariants.{Sizes as SizesTag, Note as NoteTag, Close}
 use Rattle.text.specs.Documents.{TextFrom, InOrder, rendering, lines_text, line_text, closing_text, rank_of, rank_after, steps_from, sizes_text, note_text}
-use Rattle.text.specs.Ends.{Ends, fault_at, stop_at}
+use Rattle.text.specs.Ends.{Ends, fault_at}
 use Rattle.text.specs.Outcomes.{by_size, by_note, answer_to, after_line, Done, Broken, InNextLine, Declined, Outcome}
 use Rattle.text.specs.Reading.{Read, Refused, LineAt}
-use Rattle.text.specs.Stops.{at_byte}
 use Rattle.text.specs.Tags.{allows, tag_text}
 use Rattle.text.specs.Texts.{Viable, Stuck, Any}
 use Rattle.text.proofs.Codes.{coded-line}
@@ -169,11 +167,6 @@ ends-refused f m E T l fault p q r g t =
       ([], l, q.left.now, (tt, tt, k), h.0.0, h.0.1, h.1, omega (arith, line-long l), ap (λ X. answer_to X l) k ∙ g),
     )
 
-pub line-passed : (f : ℕ) (l : Line) (p q : Reader) → Read (LineAt f (Some l)) p q → (1 ≤ q.at) × (length q.left.now < length p.left.now)
-line-passed f l p q r =
-    let h = line_read f l p q r in
-    (omega (arith, h.2, line-long l), omega (arith, ap length h.1 ∙ length-append (line_text l) q.left.now, line-long l))
-
 pub lined : (f : ℕ) (o : Option Line) (l : Line) (p q : Reader) → o ≡ Some l → Read (LineAt f o) p q → Read (LineAt f (Some l)) p q
 lined f o l p q e r = let P : Option Line → Type 0 = λ x. Read (LineAt f x) p q in subst P e r
 
@@ -191,15 +184,6 @@ ends_next f m g n E D T l p q z r x y w a h d =
 
 -- The place of a fault lies in the text
 
-stuck-within : (L : List ℕ → Type 0) (s : List ℕ) (k : ℕ) → Stuck L s k → k ≤ length s
-stuck-within L s k h = elim h.0.1 [ inl x ↦ omega (arith, x.0) | inr y ↦ omega (arith, y.0) ]
-
-stop-inside : (E T : Entries) (p q : Reader) (x : Stop) → p.at ≡ 0 → Ends 0 0 E p (Err x) T q → stop_at x ≤ length p.left.now
-stop-inside E T p q (Malformed e) z h = omega (arith, h.1, stuck-within (TextFrom 0) p.left.now h.0 h.2.0)
-stop-inside E T p q (RefusedAt e fault) z h =
-    let d = h.2 in
-    omega (arith, h.1, d.7, ap length d.6 ∙ length-append (lines_text d.0) (line_text d.1 ++ d.2), length-append (line_text d.1) d.2)
-
 stop-here : (E T : Entries) (p q : Reader) (x : Stop) → p.at ≡ 0 → Ends 0 0 E p (Err x) T q → Outcome E p.left.now (Err (fault_at p.left.now x)) T
 stop-here E T p q (Malformed e) z h =
     let k : h.0 ≡ e = omega (arith, h.1) in
@@ -210,29 +194,19 @@ stop-here E T p q (RefusedAt e fault) z h =
     let P : ℕ → Type 0 = λ x. Declined 0 E p.left.now x fault T in
     (e, refl, subst P k h.2)
 
-pub stop-within : (E T : Entries) (p q : Reader) (s : List ℕ) (x : Stop) → p.left.now ≡ s → p.at ≡ 0 → Ends 0 0 E p (Err x) T q → stop_at x ≤ length s
-stop-within E T p q s x e z h = let P : List ℕ → Type 0 = λ t. stop_at x ≤ length t in subst P e (stop-inside E T p q x z h)
-
 pub stop-outcome : (E T : Entries) (p q : Reader) (s : List ℕ) (x : Stop) (r : TableFault) → p.left.now ≡ s → p.at ≡ 0 → r ≡ fault_at s x → Ends 0 0 E p (Err x) T q → Outcome E s (Err r) T
 stop-outcome E T p q s x r e z g h =
     let P : List ℕ → Type 0 = λ t. Outcome E t (Err (fault_at t x)) T in
     let Q : TableFault → Type 0 = λ y. Outcome E s (Err y) T in
     subst Q (sym g) (subst P e (stop-here E T p q x z h))
 
+-- the same where the stop is known only by the fault that it is
+pub fault-outcome : (E T : Entries) (p q : Reader) (s : List ℕ) (r : Result ℕ Stop) (e : TableFault) → p.left.now ≡ s → p.at ≡ 0 → MatchResult r (λ n. ⊥) (λ x. e ≡ fault_at s x) → Ends 0 0 E p r T q → Outcome E s (Err e) T
+fault-outcome E T p q s (Ok n) e l z g h = absurd g
+fault-outcome E T p q s (Err x) e l z g h = stop-outcome E T p q s x e l z g h
+
 pub done-outcome : (E T : Entries) (p q : Reader) (s : List ℕ) (n : ℕ) → p.left.now ≡ s → Ends 0 0 E p (Ok n) T q → Outcome E s (Ok (n, q.left.now)) T
 done-outcome E T p q s n e h = let P : List ℕ → Type 0 = λ t. Outcome E t (Ok (n, q.left.now)) T in subst P e h
-
--- The draft's answer with its place is the answer
-
-pub at_ok : (r : Result (Unit {0}) LineFault) (at : ℕ) (u : Unit {0}) → Ok u ≡ at_byte at r → r ≡ Ok tt
-at_ok (Ok x) at u e = refl
-at_ok (Err x) at u e = absurd (let z : ◌≡◌ {A = ℕ} 0 1 = cc in omega arith)
-
-pub at_err : (r : Result (Unit {0}) LineFault) (at : ℕ) (a : RefusedLine) → Err a ≡ at_byte at r → (r ≡ Err a.fault) × (a.at ≡ at)
-at_err (Ok x) at a e = absurd (let z : ◌≡◌ {A = ℕ} 0 1 = cc in omega arith)
-at_err (Err x) at a e =
-    let b : a ≡ record { at = at; fault = x } = cc in
-    (ap (λ c. Err c.fault) (sym b), ap (λ c. c.at) b)
 
 pub ends_at : (f m i j : ℕ) (E T : Entries) (fault : LineFault) (p q : Reader) → i ≡ j → Ends f m E p (Err (RefusedAt j fault)) T q → Ends f m E p (Err (RefusedAt i fault)) T q
 ends_at f m i j E T fault p q e h = (h.0, e ∙ h.1, h.2)

@@ -1,13 +1,13 @@
 -- What the readers of one part leave to show.
-use Rattle.std.proofs.Common.{◌≡◌, ℕ, ◌+◌, ◌-◌, ◌<◌, ◌≤◌, List, [], ◌∷◌, ◌++◌, length, get_or, take, drop, Ok, Err, codes, sym, refl, ap, ◌∙◌, arith, lit<}
+use Rattle.std.proofs.Common.{◌≡◌, ℕ, ◌+◌, ◌-◌, ◌<◌, ◌≤◌, List, [], ◌++◌, length, take, drop, Ok, Err, Result, MatchResult, codes, sym, refl, ap, ◌∙◌, arith, lit<}
 use Rattle.std.proofs.lemmas.List.{take_rest, take-append-drop, take_all, length-take-le}
-use Rattle.std.proofs.lemmas.Result.{MatchResult-at_ok, MatchResult-at_err}
+use Rattle.std.proofs.lemmas.Result.{MatchResult-at_ok}
+use Rattle.text.specs.declared.cursor.Reader.{Reader}
 use Rattle.text.specs.declared.tags.Tag.{Tag}
 use Rattle.text.specs.Numbers.{Number, justified}
-use Rattle.text.specs.Reading.{End}
+use Rattle.text.specs.Reading.{End, Refused}
 use Rattle.text.specs.Tags.{TagAt, tag_at}
 use Rattle.text.specs.Texts.{Viable, Stuck, Any}
-use Rattle.text.proofs.Bad.{bad-here, bad-end}
 use Rattle.text.proofs.Joins.{coded-by-length}
 use Rattle.text.proofs.Law.{field-long}
 use Rattle.text.proofs.Letters.{tag-law}
@@ -19,24 +19,6 @@ use Rattle.text.proofs.Shapes.{value_from}
 
 pub some_end : Viable (Any End) []
 some_end = (codes "\n", (tt, refl))
-
-no_end : Any End [] → ⊥
-no_end l = omega (arith, ap length l.1)
-
-pub end-here : (s : List ℕ) (at : ℕ) → 0 < length s → get_or s 0 0 ≡ 10 → (x : List ℕ) × (s ≡ x ++ take (length s - 1) (drop 1 s)) × (at + 1 ≡ at + length x) × (x ≡ 10 ∷ [])
-end-here [] at h e = absurd (omega arith)
-end-here (a ∷ s) at h e = (10 ∷ [], (rw take_rest (ap (λ x. x ∷ s) e)), refl, refl)
-
-pub end_short : (s : List ℕ) (at : ℕ) → length s < 1 → (k : ℕ) × (at ≡ at + k) × Stuck (Any End) s k
-end_short [] at h = (0, omega arith, (bad-end (Any End) some_end no_end, no_end))
-end_short (a ∷ s) at h = absurd (omega arith)
-
-pub end-other : (s : List ℕ) (at : ℕ) → 0 < length s → (get_or s 0 0 ≡ 10 → ⊥) → (k : ℕ) × (at ≡ at + k) × Stuck (Any End) s k
-end-other [] at h n = absurd (omega arith)
-end-other (a ∷ s) at h n = (0, omega arith, (bad-here (Any End) a s some_end (λ q l. n (let e = l.1 in cc)), no_end))
-
-pub coded-end : Coded End
-coded-end = coded-by-length End 1 (λ x a h. ap length h) (λ x y a p q. refl)
 
 -- The first n bytes
 
@@ -59,5 +41,8 @@ coded-number = coded-by-length Number 4 field-long (λ x y a p q. (field_of x p.
 pub tag-ok : (f : ℕ) (s : List ℕ) (t : Tag) → Ok t ≡ tag_at f s → (2 ≤ length s) × TagAt f t (take 2 s)
 tag-ok f s t e = MatchResult-at_ok (λ t. (2 ≤ length s) × TagAt f t (take 2 s)) (λ e. Stuck (Any (TagAt f)) s e) t (sym e) (tag-law f s)
 
-pub tag-err : (f : ℕ) (s : List ℕ) (k : ℕ) → Err k ≡ tag_at f s → Stuck (Any (TagAt f)) s k
-tag-err f s k e = MatchResult-at_err (λ t. (2 ≤ length s) × TagAt f t (take 2 s)) (λ e. Stuck (Any (TagAt f)) s e) k (sym e) (tag-law f s)
+-- An error that is given its place is a refusal there
+
+pub refused-here : {X : Type 0} (L : List ℕ → Type 0) (A : X → Type 0) (p : Reader) (r : Result X ℕ) (e : ℕ) → MatchResult r (λ x. ⊥) (λ k. e ≡ p.at + k) → MatchResult r A (λ k. Stuck L p.left.now k) → Refused L p e
+refused-here L A p (Ok x) e h g = absurd h
+refused-here L A p (Err k) e h g = (k, h, g)

@@ -8,4 +8,3 @@ pub mod Places
 pub mod Faults
 pub mod Outcomes
 pub mod Ends
-pub mod Stops

@@ -1,6 +1,6 @@
 -- What a reader has read, and where it stopped.
 -- Assumes nothing.
-use Rattle.std.specs.Prelude.{◌≡◌, ℕ, ◌+◌, Bool, true, List, ◌++◌, length, Some, None, codes, Option}
+use Rattle.std.specs.Prelude.{◌≡◌, ℕ, ◌+◌, Bool, true, List, [], ◌∷◌, ◌++◌, length, Some, None, codes, Option}
 use Rattle.text.specs.declared.cursor.Reader.{Reader}
 use Rattle.text.specs.declared.lines.Line.{Line}
 use Rattle.text.specs.declared.tags.Tag.TheVariants.{Close}
@@ -21,18 +21,14 @@ Refused L p e = (k : ℕ) × (e ≡ p.at + k) × Stuck L p.left.now k
 abbrev pub End : Unit {0} → List ℕ → Type 0
 End u s = s ≡ codes "\n"
 
--- the rest of a line after its tag: one number, two, three
-abbrev pub Both : {X Y : Type 0} → (X → List ℕ → Type 0) → (Y → List ℕ → Type 0) → X × Y → List ℕ → Type 0
-Both A B v s = (a : List ℕ) × (b : List ℕ) × (s ≡ a ++ b) × A v.0 a × B v.1 b
+-- the rest of a line after its tag: numbers, and the end
+abbrev pub Row : List ℕ → List ℕ → Type 0
+Row [] s = End tt s
+Row (n ∷ ns) s = (a : List ℕ) × (b : List ℕ) × (s ≡ a ++ b) × Number n a × Row ns b
 
-abbrev pub One : ℕ × Unit {0} → List ℕ → Type 0
-One v s = Both Number End v s
-
-abbrev pub Two : ℕ × (ℕ × Unit {0}) → List ℕ → Type 0
-Two v s = Both Number One v s
-
-abbrev pub Three : ℕ × (ℕ × (ℕ × Unit {0})) → List ℕ → Type 0
-Three v s = Both Number Two v s
+-- k numbers, and the end
+abbrev pub RowOf : ℕ → List ℕ → List ℕ → Type 0
+RowOf k ns s = (length ns ≡ k) × Row ns s
 
 -- the rest of a note's line: its action, if its role takes one, and its fact
 abbrev pub NoteRest : Bool → ℕ × ℕ → List ℕ → Type 0

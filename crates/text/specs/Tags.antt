@@ -1,6 +1,7 @@
 -- The tags, the order in which they may follow one another, and what the reader of a tag does byte by byte.
 -- Assumes nothing.
 use Rattle.std.specs.Prelude.{◌≡◌, ℕ, Bool, true, false, cond, ◌&&◌, List, length, Some, None, Ok, Err, codes, Option, Result, ◌==◌, nat_le, nat_lt, slice_index}
+use Rattle.table.specs.declared.roles.Role.{Role}
 use Rattle.table.specs.declared.roles.Role.TheVariants.{Initial, Goal, StartNeeds, StartAdds, StartDeletes, EndNeeds, EndAdds, EndDeletes, Held}
 use Rattle.table.specs.Roles.{number_of}
 use Rattle.text.specs.declared.tags.Tag.{Tag}
@@ -25,6 +26,11 @@ abbrev pub allows : ℕ → Tag → Bool
 allows f Sizes = f == 0
 allows f (Note r) = nat_le 1 f && nat_le f (number_of r)
 allows f Close = nat_le 1 f
+
+-- the rank of the last line, by its role: the sizes count as the first role, and at the beginning there is none
+abbrev pub rank_in : Option Role → ℕ
+rank_in None = 0
+rank_in (Some r) = number_of r
 
 -- s is a tag that may stand after a line of rank f
 abbrev pub TagAt : ℕ → Tag → List ℕ → Type 0

@@ -1,7 +1,6 @@
 //! Why a table text is refused, and which refusal that is.
 
 ghost use Rattle.std.specs.Prelude.{◌≡◌};
-ghost use Rattle.text.specs.Stops.{at_byte};
 ghost use Rattle.text.specs.Faults.{line_refusal, table_refusal};
 ghost use Rattle.text.specs.declared.faults.LineFault.TheVariants.{Size as OfSize, Note as OfNote};
 ghost use Rattle.text.specs.declared.faults.Stop.TheVariants.{Malformed as BadAt, Refused as RefusedBy};
@@ -38,22 +37,6 @@ pub(crate) enum Stop {
 pub(crate) struct RefusedLine {
     pub at: usize,
     pub fault: LineFault,
-}
-
-/// Gives the draft's answer to a line its place.
-pub(crate) trait AtByte {
-    fn at_byte(self, at: usize) -> Result<(), RefusedLine>;
-}
-
-impl AtByte for Result<(), LineFault> {
-    fn at_byte(self, at: usize) -> Result<(), RefusedLine>
-        ensures { result ≡ at_byte at self }
-    {
-        match self {
-            Ok(()) => Ok(()),
-            Err(fault) => Err(RefusedLine { at, fault }),
-        }
-    }
 }
 
 impl From<SizeFault> for LineFault {

@@ -1,11 +1,11 @@
 //! The lines of a table text, read one by one: a tag, numbers in columns, a line feed.
 
 ghost use Rattle.std.specs.Prelude.{◌≡◌, not, MatchResult};
-ghost use Rattle.table.specs.Roles.{actionless};
+ghost use Rattle.table.specs.Roles.{actionless, number_of};
 ghost use Rattle.text.specs.Documents.{rank_of, steps_from};
 ghost use Rattle.text.specs.Numbers.{Number};
-ghost use Rattle.text.specs.Reading.{End, LineAt, NoteRest, One, Read, Refused, Three, Two};
-ghost use Rattle.text.specs.Tags.{TagAt};
+ghost use Rattle.text.specs.Reading.{End, LineAt, NoteRest, Read, Refused, Row, RowOf};
+ghost use Rattle.text.specs.Tags.{TagAt, rank_in};
 ghost use Rattle.text.specs.Texts.{Any};
 
 use crate::cursor::{Malformed, Reader};
@@ -13,7 +13,7 @@ use crate::fields::field;
 use crate::tags::{Tag, leading_tag};
 use table::Role;
 
-/// A line of the document, before the closing one. The action of a note whose role takes none is 0.
+/// A line of the document, before the closing one. The action of a note whose role takes none is 0, as the draft's call takes it.
 #[derive(Clone, Copy)]
 pub enum Line {
     Sizes {
@@ -29,13 +29,13 @@ pub enum Line {
 }
 
 impl Line {
-    // The rank that the lines after this one start from: no role before this one's may follow.
-    pub(crate) fn rank(self) -> u32
-        ensures { result ≡ rank_of self }
+    // The role that the lines after this one start from: no role before it may follow.
+    pub(crate) fn role(self) -> Role
+        ensures { number_of result ≡ rank_of self }
     {
         match self {
-            Line::Sizes { .. } => 1,
-            Line::Note { role, .. } => role.number(),
+            Line::Sizes { .. } => Role::Initial,
+            Line::Note { role, .. } => role,
         }
     }
 
@@ -54,10 +54,7 @@ impl Line {
 fn names_action(role: Role) -> bool
     ensures { result ≡ not (actionless role) }
 {
-    match role {
-        Role::Initial | Role::Goal => false,
-        _ => true,
-    }
+    !matches!(role, Role::Initial | Role::Goal)
 }
 
 impl<'a> Reader<'a> {
@@ -75,12 +72,9 @@ impl<'a> Reader<'a> {
             (λ _. Read (End tt) self.old self.new)
             (λ e. Refused (Any End) self.old e.at) }
     {
-        let [first, rest @ ..] = self.left else {
+        let [b'\n', rest @ ..] = self.left else {
             return Err(Malformed { at: self.at });
         };
-        if *first != b'\n' {
-            return Err(Malformed { at: self.at });
-        }
         self.left = rest;
         self.at += 1;
         Ok(())
@@ -92,67 +86,40 @@ impl<'a> Reader<'a> {
             (λ n. Read (Number n) self.old self.new)
             (λ e. Refused (Any Number) self.old e.at) }
     {
-        match field(self.left) {
-            Ok(n) => {
-                if let [_, _, _, _, rest @ ..] = self.left {
-                    self.left = rest;
-                    self.at += 4;
-                }
-                Ok(n)
-            }
-            Err(k) => Err(Malformed { at: self.at + k }),
+        let n = field(self.left).map_err(|k| Malformed { at: self.at + k })?;
+        if let [_, _, _, _, rest @ ..] = self.left {
+            self.left = rest;
+            self.at += 4;
         }
+        Ok(n)
     }
 
-    // Reads the tag of a line that may stand after one of rank `from`: two bytes, and the rest is left.
-    fn tag(&mut self, from: u32) -> Result<Tag, Malformed>
+    // Reads the tag of a line that may stand after one of this role: two bytes, and the rest is left.
+    fn tag(&mut self, last: Option<Role>) -> Result<Tag, Malformed>
         ensures { MatchResult result
-            (λ t. Read (TagAt from t) self.old self.new)
-            (λ e. Refused (Any (TagAt from)) self.old e.at) }
+            (λ t. Read (TagAt (rank_in last) t) self.old self.new)
+            (λ e. Refused (Any (TagAt (rank_in last))) self.old e.at) }
     {
-        match leading_tag(self.left, from) {
-            Ok(tag) => {
-                if let [_, _, rest @ ..] = self.left {
-                    self.left = rest;
-                    self.at += 2;
-                }
-                Ok(tag)
-            }
-            Err(k) => Err(Malformed { at: self.at + k }),
+        let tag = leading_tag(self.left, last).map_err(|k| Malformed { at: self.at + k })?;
+        if let [_, _, rest @ ..] = self.left {
+            self.left = rest;
+            self.at += 2;
         }
+        Ok(tag)
     }
 
-    // Reads a number and the line's end.
-    fn one(&mut self) -> Result<u16, Malformed>
+    // Reads numbers and the line's end.
+    fn numbers<const N: usize>(&mut self) -> Result<[u16; N], Malformed>
         ensures { MatchResult result
-            (λ v. Read (One (v, tt)) self.old self.new)
-            (λ e. Refused (Any One) self.old e.at) }
+            (λ ns. Read (Row ns) self.old self.new)
+            (λ e. Refused (Any (RowOf N)) self.old e.at) }
     {
-        let a = self.number()?;
+        let mut numbers = [0; N];
+        for number in &mut numbers {
+            *number = self.number()?;
+        }
         self.end()?;
-        Ok(a)
-    }
-
-    // Reads two numbers and the line's end.
-    fn two(&mut self) -> Result<(u16, u16), Malformed>
-        ensures { MatchResult result
-            (λ v. Read (Two (v.0, (v.1, tt))) self.old self.new)
-            (λ e. Refused (Any Two) self.old e.at) }
-    {
-        let a = self.number()?;
-        let b = self.one()?;
-        Ok((a, b))
-    }
-
-    // Reads three numbers and the line's end.
-    fn three(&mut self) -> Result<(u16, u16, u16), Malformed>
-        ensures { MatchResult result
-            (λ v. Read (Three (v.0, (v.1, (v.2, tt)))) self.old self.new)
-            (λ e. Refused (Any Three) self.old e.at) }
-    {
-        let a = self.number()?;
-        let (b, c) = self.two()?;
-        Ok((a, b, c))
+        Ok(numbers)
     }
 
     // Reads the action and the fact of a note, and the line's end.
@@ -162,23 +129,23 @@ impl<'a> Reader<'a> {
             (λ e. Refused (Any (NoteRest (actionless role))) self.old e.at) }
     {
         if names_action(role) {
-            let (action, fact) = self.two()?;
+            let [action, fact] = self.numbers::<2>()?;
             Ok((action, fact))
         } else {
-            let fact = self.one()?;
+            let [fact] = self.numbers::<1>()?;
             Ok((0, fact))
         }
     }
 
-    /// Reads a line that may stand after one of rank `from`; none, if it closes the text.
-    pub(crate) fn line(&mut self, from: u32) -> Result<Option<Line>, Malformed>
+    /// Reads a line that may stand after one of this role; none, if it closes the text.
+    pub(crate) fn line(&mut self, last: Option<Role>) -> Result<Option<Line>, Malformed>
         ensures { MatchResult result
-            (λ o. Read (LineAt from o) self.old self.new)
-            (λ e. Refused (Any (LineAt from)) self.old e.at) }
+            (λ o. Read (LineAt (rank_in last) o) self.old self.new)
+            (λ e. Refused (Any (LineAt (rank_in last))) self.old e.at) }
     {
-        match self.tag(from)? {
+        match self.tag(last)? {
             Tag::Sizes => {
-                let (facts, actions, steps) = self.three()?;
+                let [facts, actions, steps] = self.numbers::<3>()?;
                 Ok(Some(Line::Sizes {
                     facts,
                     actions,

@@ -6,7 +6,7 @@ ghost use Rattle.text.specs.Ends.{Ends, fault_at, stop_at};
 ghost use Rattle.text.specs.Outcomes.{NoOther, Outcome, after_line, answer_to, said};
 
 use crate::cursor::{Malformed, Reader};
-use crate::faults::{AtByte, LineFault, RefusedLine, Stop, TableFault};
+use crate::faults::{LineFault, RefusedLine, Stop, TableFault};
 use crate::lines::Line;
 use crate::places::place;
 use planner::Draft;
@@ -19,7 +19,7 @@ fn apply(draft: &mut Draft, line: Line) -> Result<(), LineFault>
     match line {
         Line::Sizes { facts, actions, .. } => draft.size(u32::from(facts), u32::from(actions))?,
         Line::Note { role, action, fact } => draft.note(
-            role.number(),
+            u32::from(role),
             u32::from(action),
             u32::from(fact),
         )?,
@@ -32,11 +32,12 @@ impl<'a> Reader<'a> {
     fn table(&mut self, draft: &mut Draft) -> Result<u16, Stop>
         ensures { Ends 0 0 (in_draft draft.old) self.old result (in_draft draft.new) self.new }
     {
-        let mut from = 0;
+        let mut last = None;
         let mut steps = 0;
-        while let Some(line) = self.line(from)? {
-            apply(draft, line).at_byte(self.at - 1)?;
-            from = line.rank();
+        while let Some(line) = self.line(last)? {
+            let at = self.at - 1;
+            apply(draft, line).map_err(|fault| RefusedLine { at, fault })?;
+            last = Some(line.role());
             steps = line.steps(steps);
         }
         Ok(steps)
@@ -49,20 +50,9 @@ pub fn read_table<'a>(draft: &mut Draft, text: &'a [u8]) -> Result<(u32, &'a [u8
     ensures law { Outcome (in_draft draft.old) text.now (said (λ rest. rest.now) result) (in_draft draft.new) }
     ensures only { NoOther (in_draft draft.old) text.now (said (λ rest. rest.now) result) (in_draft draft.new) }
 {
-    let (steps, rest) = read_lines(draft, text)?;
-    Ok((steps as u32, rest))
-}
-
-// Reads all lines, and places the fault, if there is one.
-fn read_lines<'a>(draft: &mut Draft, text: &'a [u8]) -> Result<(u16, &'a [u8]), TableFault>
-    ensures law { Outcome (in_draft draft.old) text.now (said (λ rest. rest.now) result) (in_draft draft.new) }
-    ensures only { NoOther (in_draft draft.old) text.now (said (λ rest. rest.now) result) (in_draft draft.new) }
-{
     let mut reader = Reader::new(text);
-    match reader.table(draft) {
-        Ok(steps) => Ok((steps, reader.left)),
-        Err(stop) => Err(placed(stop, text)),
-    }
+    let steps = reader.table(draft).map_err(|stop| placed(stop, text))?;
+    Ok((u32::from(steps), reader.left))
 }
 
 // The fault at the place where reading stopped.

@@ -1,7 +1,7 @@
 //! The two letters with which a line begins, and the order of the lines.
 
-ghost use Rattle.std.specs.Prelude.{◌≡◌, ℕ, ◌<◌, ◌≤◌};
-ghost use Rattle.text.specs.Tags.{allows, opens, tag_at, tag_of};
+ghost use Rattle.std.specs.Prelude.{◌≡◌, ◌≤◌, IfErr, length};
+ghost use Rattle.text.specs.Tags.{allows, opens, rank_in, tag_at, tag_of};
 
 use table::Role;
 
@@ -32,49 +32,49 @@ fn tag_of(a: u8, b: u8) -> Option<Tag>
     }
 }
 
-// Some tag that may stand after a line of rank `from` begins with `a`.
-fn opens_line(a: u8, from: u32) -> bool
-    ensures { result ≡ opens a from }
+// Some tag that may stand after a line of this role begins with `a`.
+fn opens_line(a: u8, last: Option<Role>) -> bool
+    ensures { result ≡ opens a (rank_in last) }
 {
+    let Some(role) = last else {
+        return a == b'S';
+    };
     match a as char {
-        'S' => from <= 5,
-        'I' => from == 1,
-        'G' => 1 <= from && from <= 2,
-        'E' => 1 <= from && from <= 8,
-        'H' => 1 <= from && from <= 9,
-        'Z' => 1 <= from,
+        'S' => role <= Role::StartDeletes,
+        'I' => role == Role::Initial,
+        'G' => role <= Role::Goal,
+        'E' => role <= Role::EndDeletes,
+        'H' | 'Z' => true,
         _ => false,
     }
 }
 
 impl Tag {
-    // The sizes come first; the other lines by rank, which is the role's number.
-    fn allowed(self, from: u32) -> bool
-        ensures { result ≡ allows from self }
+    // The sizes come first, and then the notes, by their roles.
+    fn allowed(self, last: Option<Role>) -> bool
+        ensures { result ≡ allows (rank_in last) self }
     {
         match self {
-            Tag::Sizes => from == 0,
-            Tag::Note(role) => 1 <= from && from <= role.number(),
-            Tag::Close => 1 <= from,
+            Tag::Sizes => last.is_none(),
+            Tag::Note(role) => last.is_some_and(|last| last <= role),
+            Tag::Close => last.is_some(),
         }
     }
 }
 
 /// The tag with which `s` begins, if it may stand there, or the place of the first byte with which none continues.
-pub(crate) fn leading_tag(s: &[u8], from: u32) -> Result<Tag, usize>
-    ensures { result ≡ tag_at from s.now }
+pub(crate) fn leading_tag(s: &[u8], last: Option<Role>) -> Result<Tag, usize>
+    ensures tag { result ≡ tag_at (rank_in last) s.now }
+    ensures place { IfErr result (λ k. k ≤ length s.now) }
 {
     let [a, ..] = s else {
         return Err(0);
     };
-    if !opens_line(*a, from) {
+    if !opens_line(*a, last) {
         return Err(0);
     }
     let [_, b, ..] = s else {
         return Err(1);
     };
-    let Some(tag) = tag_of(*a, *b) else {
-        return Err(1);
-    };
-    if tag.allowed(from) { Ok(tag) } else { Err(1) }
+    tag_of(*a, *b).filter(|tag| tag.allowed(last)).ok_or(1)
 }

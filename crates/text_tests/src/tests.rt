@@ -9,22 +9,36 @@ const LENGTH: usize = 116;
 const TEXT: [u8; LENGTH] =
     *b"SZ   4   2  12\nIN   1\nGO   2\nGO   4\nSN   1   1\nSA   2   2\nSD   1   3\nEN   2   2\nEA   1   4\nED   2   1\nHD   1   2\nZZ\n";
 
-fn code(number: u32, first: u128, second: u128, third: u128) -> Code {
-    Code {
+// The steps that a text gives and how many bytes are left after it, or the refusal's number and figures.
+type Reading = Result<(u32, usize), Code>;
+
+fn refused(number: u32, first: u128, second: u128, third: u128) -> Reading {
+    Err(Code {
         number,
         first,
         second,
         third,
-    }
+    })
 }
 
-// What reading into a new draft answers: number 0, the steps and how many bytes are left; or the refusal.
-fn reading(text: &[u8]) -> Code {
+// No lawful text goes on so at this line and column.
+fn malformed(line: u128, column: u128) -> Reading {
+    refused(18, line, column, 0)
+}
+
+// The draft refuses this line, by this number.
+fn declined(line: u128, number: u128) -> Reading {
+    refused(20, line, 0, number)
+}
+
+fn reading_into(draft: &mut Draft, text: &[u8]) -> Reading {
+    let (steps, rest) = read_table(draft, text).map_err(|fault| fault.code())?;
+    Ok((steps, rest.len()))
+}
+
+fn reading(text: &[u8]) -> Reading {
     let mut draft = Draft::new();
-    match read_table(&mut draft, text) {
-        Ok((steps, rest)) => code(0, steps as u128, rest.len() as u128, 0),
-        Err(fault) => fault.code(),
-    }
+    reading_into(&mut draft, text)
 }
 
 // The line and the column after a byte.
@@ -39,24 +53,24 @@ fn onward(line: u128, column: u128, byte: u8) -> (u128, u128) {
 // The text with another byte at a place.
 fn changed(place: usize, byte: u8) -> [u8; LENGTH] {
     let mut text = TEXT;
-    if place < LENGTH {
-        text[place] = byte;
+    if let Some(old) = text.get_mut(place) {
+        *old = byte;
     }
     text
 }
 
 #[test]
 fn lawful(rt: HostRuntime) {
-    assert_eq!(rt; reading(&TEXT), code(0, 12, 0, 0));
+    assert_eq!(rt; reading(&TEXT), Ok((12, 0)));
 }
 
 #[test]
 fn prefixes(rt: HostRuntime) {
     let mut line = 1;
     let mut column = 1;
-    for k in 0..LENGTH {
-        assert_eq!(rt; reading(&TEXT[0..k]), code(18, line, column, 0));
-        (line, column) = onward(line, column, TEXT[k]);
+    for (k, byte) in TEXT.iter().enumerate() {
+        assert_eq!(rt; reading(&TEXT[0..k]), malformed(line, column));
+        (line, column) = onward(line, column, *byte);
     }
 }
 
@@ -65,109 +79,101 @@ fn prefixes(rt: HostRuntime) {
 fn changed_bytes(rt: HostRuntime) {
     let mut line = 1;
     let mut column = 1;
-    for k in 0..LENGTH {
+    for (k, old) in TEXT.iter().enumerate() {
         for byte in [b'#', b'a', b'\n', b'\r', b'-', 0, 255] {
-            if byte != TEXT[k] {
-                assert_eq!(rt; reading(&changed(k, byte)), code(18, line, column, 0));
+            if byte != *old {
+                assert_eq!(rt; reading(&changed(k, byte)), malformed(line, column));
             }
         }
-        (line, column) = onward(line, column, TEXT[k]);
+        (line, column) = onward(line, column, *old);
     }
 }
 
 #[test]
 fn rests(rt: HostRuntime) {
-    assert_eq!(rt; reading(b"SZ   1   1   0\nZZ\n"), code(0, 0, 0, 0));
-    assert_eq!(rt; reading(b"SZ   1   1   1\nZZ\nZZ\n"), code(0, 1, 3, 0));
+    assert_eq!(rt; reading(b"SZ   1   1   0\nZZ\n"), Ok((0, 0)));
+    assert_eq!(rt; reading(b"SZ   1   1   1\nZZ\nZZ\n"), Ok((1, 3)));
     assert_eq!(rt;
         reading(b"SZ  32  169999\nZZ\ns SATISFIABLE"),
-        code(0, 9999, 13, 0)
+        Ok((9999, 13))
     );
 }
 
 #[test]
 fn columns_of_numbers(rt: HostRuntime) {
-    assert_eq!(rt; reading(b""), code(18, 1, 1, 0));
-    assert_eq!(rt; reading(b"SZ0001"), code(18, 1, 3, 0));
-    assert_eq!(rt; reading(b"SZ  01"), code(18, 1, 5, 0));
-    assert_eq!(rt; reading(b"SZ    "), code(18, 1, 6, 0));
-    assert_eq!(rt; reading(b"SZ 1 1"), code(18, 1, 5, 0));
-    assert_eq!(rt; reading(b"SZ   1   1   1 \n"), code(18, 1, 15, 0));
-    assert_eq!(rt; reading(b"SZ   1   1   1"), code(18, 1, 15, 0));
-    assert_eq!(rt; reading(b"SZ   1   1   1\n"), code(18, 2, 1, 0));
+    assert_eq!(rt; reading(b""), malformed(1, 1));
+    assert_eq!(rt; reading(b"SZ0001"), malformed(1, 3));
+    assert_eq!(rt; reading(b"SZ  01"), malformed(1, 5));
+    assert_eq!(rt; reading(b"SZ    "), malformed(1, 6));
+    assert_eq!(rt; reading(b"SZ 1 1"), malformed(1, 5));
+    assert_eq!(rt; reading(b"SZ   1   1   1 \n"), malformed(1, 15));
+    assert_eq!(rt; reading(b"SZ   1   1   1"), malformed(1, 15));
+    assert_eq!(rt; reading(b"SZ   1   1   1\n"), malformed(2, 1));
 }
 
 #[test]
 fn order_of_lines(rt: HostRuntime) {
-    assert_eq!(rt; reading(b"ZZ\n"), code(18, 1, 1, 0));
-    assert_eq!(rt; reading(b"SN"), code(18, 1, 2, 0));
+    assert_eq!(rt; reading(b"ZZ\n"), malformed(1, 1));
+    assert_eq!(rt; reading(b"SN"), malformed(1, 2));
     assert_eq!(rt;
         reading(b"SZ   1   1   1\nSZ   1   1   1\nZZ\n"),
-        code(18, 2, 2, 0)
+        malformed(2, 2)
     );
     assert_eq!(rt;
         reading(b"SZ   1   1   1\nGO   1\nIN   1\nZZ\n"),
-        code(18, 3, 1, 0)
+        malformed(3, 1)
     );
     assert_eq!(rt;
         reading(b"SZ   1   1   1\nSA   1   1\nSN   1   1\nZZ\n"),
-        code(18, 3, 2, 0)
+        malformed(3, 2)
     );
     assert_eq!(rt;
         reading(b"SZ   1   1   1\nHD   1   1\nED   1   1\nZZ\n"),
-        code(18, 3, 1, 0)
+        malformed(3, 1)
     );
 }
 
 #[test]
 fn refused_lines(rt: HostRuntime) {
-    assert_eq!(rt; reading(b"SZ  33   1   1\n"), code(20, 1, 0, 1));
-    assert_eq!(rt; reading(b"SZ   0   1   1\n#"), code(20, 1, 0, 1));
-    assert_eq!(rt; reading(b"SZ   1   1   1\nSN   0   1\n"), code(20, 2, 0, 4));
-    assert_eq!(rt; reading(b"SZ   1   1   1\nIN   2\nZZ\n"), code(20, 2, 0, 5));
+    assert_eq!(rt; reading(b"SZ  33   1   1\n"), declined(1, 1));
+    assert_eq!(rt; reading(b"SZ   0   1   1\n#"), declined(1, 1));
+    assert_eq!(rt; reading(b"SZ   1   1   1\nSN   0   1\n"), declined(2, 4));
+    assert_eq!(rt; reading(b"SZ   1   1   1\nIN   2\nZZ\n"), declined(2, 5));
     assert_eq!(rt;
         reading(b"SZ   1   1   1\nIN   1\nIN   1\nZZ\n"),
-        code(20, 3, 0, 6)
+        declined(3, 6)
     );
     assert_eq!(rt;
         reading(b"SZ   1   1   1\nSA   1   1\nSD   1   1\nZZ\n"),
-        code(20, 3, 0, 7)
+        declined(3, 7)
     );
     // a bad byte before the end of a line that the draft would refuse
-    assert_eq!(rt; reading(b"SZ  33   1   x\n"), code(18, 1, 14, 0));
-    assert_eq!(rt; reading(b"SZ   1   1   1\nIN   2"), code(18, 2, 7, 0));
+    assert_eq!(rt; reading(b"SZ  33   1   x\n"), malformed(1, 14));
+    assert_eq!(rt; reading(b"SZ   1   1   1\nIN   2"), malformed(2, 7));
 }
 
-// What a note on the draft answers: 0, or its refusal's number.
-fn noted(draft: &mut Draft, role: u32, action: u32, fact: u32) -> u32 {
-    match draft.note(role, action, fact) {
-        Ok(()) => 0,
-        Err(fault) => fault.code().number,
-    }
+// What a note on the draft answers, by the refusal's number.
+fn noted(draft: &mut Draft, role: u32, action: u32, fact: u32) -> Result<(), u32> {
+    draft
+        .note(role, action, fact)
+        .map_err(|fault| fault.code().number)
 }
 
 #[test]
 fn drafts_after_faults(rt: HostRuntime) {
     // the lines before the fault stand; the refused line does not
     let mut draft = Draft::new();
-    let refused = match read_table(
-        &mut draft,
-        b"SZ   2   1   1\nIN   1\nSA   1   1\nSD   1   1\nZZ\n",
-    ) {
-        Ok(_) => code(0, 0, 0, 0),
-        Err(fault) => fault.code(),
-    };
-    assert_eq!(rt; refused, code(20, 4, 0, 7));
-    assert_eq!(rt; noted(&mut draft, 1, 0, 1), 6);
-    assert_eq!(rt; noted(&mut draft, 4, 1, 1), 6);
-    assert_eq!(rt; noted(&mut draft, 5, 1, 1), 7);
-    assert_eq!(rt; noted(&mut draft, 1, 0, 2), 0);
+    let text = b"SZ   2   1   1\nIN   1\nSA   1   1\nSD   1   1\nZZ\n";
+    assert_eq!(rt; reading_into(&mut draft, text), declined(4, 7));
+    assert_eq!(rt; noted(&mut draft, 1, 0, 1), Err(6));
+    assert_eq!(rt; noted(&mut draft, 4, 1, 1), Err(6));
+    assert_eq!(rt; noted(&mut draft, 5, 1, 1), Err(7));
+    assert_eq!(rt; noted(&mut draft, 1, 0, 2), Ok(()));
     // sizes on a draft that has notes
-    let sized = match read_table(&mut draft, b"SZ   2   1   1\nZZ\n") {
-        Ok(_) => code(0, 0, 0, 0),
-        Err(fault) => fault.code(),
-    };
-    assert_eq!(rt; sized, code(20, 1, 0, 2));
+    assert_eq!(rt;
+        reading_into(&mut draft, b"SZ   2   1   1\nZZ\n"),
+        declined(1, 2)
+    );
 }
 
 // The example of the formats' page, and what changes of it come to.
@@ -175,42 +181,38 @@ fn drafts_after_faults(rt: HostRuntime) {
 fn example(rt: HostRuntime) {
     assert_eq!(rt;
         reading(b"SZ   2   2   2\nGO   2\nSA   1   1\nEA   2   2\nED   1   1\nHD   2   1\nZZ\n"),
-        code(0, 2, 0, 0)
+        Ok((2, 0))
     );
-    assert_eq!(rt; reading(b"SZ   2   2  02\n"), code(18, 1, 13, 0));
-    assert_eq!(rt; reading(b"SZ   2   2\n"), code(18, 1, 11, 0));
-    assert_eq!(rt; reading(b"SZ   2   2   2\nGO   3\n"), code(20, 2, 0, 5));
+    assert_eq!(rt; reading(b"SZ   2   2  02\n"), malformed(1, 13));
+    assert_eq!(rt; reading(b"SZ   2   2\n"), malformed(1, 11));
+    assert_eq!(rt; reading(b"SZ   2   2   2\nGO   3\n"), declined(2, 5));
     assert_eq!(rt;
         reading(b"SZ   2   2   2\nGO   2\nSA   1   1\nED   1   1\nEA   2   2\n"),
-        code(18, 5, 2, 0)
+        malformed(5, 2)
     );
     assert_eq!(rt;
         reading(b"SZ   2   2   2\nGO   2\nSA   1   1\nEA   2   2\nED   1   1\nED   1   1\nZZ\n"),
-        code(20, 6, 0, 6)
+        declined(6, 6)
     );
     assert_eq!(rt;
         reading(b"SZ   2   2   2\nGO   2\nSA   1   1\nEA   2   2\nED   1   1\nHD   2   1\n"),
-        code(18, 7, 1, 0)
+        malformed(7, 1)
     );
 }
 
 // A fault of a table text becomes a refusal on its way up.
-fn steps_of(text: &[u8]) -> Result<u32, Refusal> {
+fn refusal_on_the_way(text: &[u8]) -> Result<(u32, usize), Refusal> {
     let mut draft = Draft::new();
-    let (steps, _) = read_table(&mut draft, text)?;
-    Ok(steps)
+    let (steps, rest) = read_table(&mut draft, text)?;
+    Ok((steps, rest.len()))
+}
+
+fn code_on_the_way(text: &[u8]) -> Reading {
+    refusal_on_the_way(text).map_err(|refusal| refusal.code())
 }
 
 #[test]
 fn refusals(rt: HostRuntime) {
-    let malformed = match steps_of(b"SZ   1   1   1\nZ") {
-        Ok(steps) => code(0, steps as u128, 0, 0),
-        Err(refusal) => refusal.code(),
-    };
-    assert_eq!(rt; malformed, code(18, 2, 2, 0));
-    let refused = match steps_of(b"SZ   1  17   1\n") {
-        Ok(steps) => code(0, steps as u128, 0, 0),
-        Err(refusal) => refusal.code(),
-    };
-    assert_eq!(rt; refused, code(20, 1, 0, 1));
+    assert_eq!(rt; code_on_the_way(b"SZ   1   1   1\nZ"), malformed(2, 2));
+    assert_eq!(rt; code_on_the_way(b"SZ   1  17   1\n"), declined(1, 1));
 }

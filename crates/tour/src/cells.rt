@@ -2,7 +2,7 @@
 
 use table::Role;
 
-// A note: its role, its action (0 where the role takes none) and its fact.
+// A note as the draft's call takes it: its role, its action (0 where the role takes none) and its fact.
 #[derive(Clone, Copy)]
 pub struct Note {
     pub role: Role,

@@ -2,7 +2,6 @@
 
 use crate::showing::{show_plan, show_refusal};
 use planner::Draft;
-use refusal::Fault;
 use std::io;
 use text::read_table;
 
@@ -17,7 +16,7 @@ pub fn show_text(rt: &HostRuntime, bytes: &[u8], plan: &[(u32, u32)]) -> io::Res
         }
         Err(fault) => {
             print!(rt; "  ")?;
-            show_refusal(rt, fault.code())
+            show_refusal(rt, fault)
         }
     }
 }

@@ -1,7 +1,8 @@
 -- Places of a list, counted from 1: what stands at one, and the first whose element passes a test.
 -- `FirstPlace` is what a reader must believe; `first_place` computes the one answer of which it holds.
 -- Assumes nothing.
-use Rattle.std.specs.Prelude.{◌≡◌, ℕ, zero, suc, ◌<◌, Bool, true, false, cond, List, [], ◌∷◌, Some, None, Option}
+use Rattle.std.specs.Prelude.{◌≡◌, ℕ, zero, suc, ◌<◌, Bool, true, false, List, Some, None, Option, position}
+use Rattle.std.specs.Option.{option_map}
 use Rattle.std.specs.List.{slice_get}
 
 -- the element at a place, which has one element fewer before it: none at place 0, and none beyond the list
@@ -16,14 +17,9 @@ FirstPlace {X} f xs (Some place) =
     ((x : X) × (item_at xs place ≡ Some x) × (f x ≡ true))
     × ((k : ℕ) (x : X) → k < place → item_at xs k ≡ Some x → f x ≡ false)
 
--- one place further
-abbrev pub onward : Option ℕ → Option ℕ
-onward None = None
-onward (Some place) = Some (suc place)
-
+-- the first place whose element passes the test
 abbrev pub first_place : {X : Type 0} → (X → Bool) → List X → Option ℕ
-first_place f [] = None
-first_place f (x ∷ xs) = cond (f x) (Some 1) (onward (first_place f xs))
+first_place f xs = option_map suc (position f xs)
 
 -- r is the first place whose element equals x. Whatever equals x is found there, too.
 pub record Found {X : Type 0} (equal : X → X → Bool) (x : X) (xs : List X) (r : Option ℕ) : Type 0 where

@@ -1,23 +1,21 @@
-//! A tray: a list in given memory, for every kind of element that has an equality.
+//! A tray: a list in given memory, for every kind of element. What is found in it is found by the equality of the elements (`Eq`).
 //!
 //! The tray is a struct over a lent slice. It allocates nothing and never grows: when the slice is full, it refuses. Places count
 //! from 1 throughout. What it holds is the list `items` of `specs/Trays.antt`, and every contract speaks of that list, of the whole
 //! memory, and of who lent it.
 #![tactic(auto)]
 
-mod equality;
 mod fault;
+mod kinds;
 mod list;
-mod rows;
 mod search;
 
-pub use equality::Equality;
 pub use fault::TrayFault;
 
 /// A list in lent memory: the first `count` slots, or all of them where `count` is larger. So any two fields make a tray, and there
 /// is no invariant to keep.
 #[derive(Drop)]
-pub struct Tray<'a, T: Equality> {
+pub struct Tray<'a, T> {
     slots: &'a mut [T],
     count: usize,
 }

@@ -4,10 +4,9 @@ ghost use Rattle.std.specs.Prelude.{◌≡◌, ◌<◌, [], length, take, MatchO
 ghost use Rattle.tray.specs.Places.{item_at};
 ghost use Rattle.tray.specs.Trays.{items, memory, size_of, lender, Append};
 
-use super::rows::{front, item_at, write};
-use super::{Equality, Tray, TrayFault};
+use super::{Tray, TrayFault};
 
-impl<'a, T: Equality> Tray<'a, T> {
+impl<'a, T> Tray<'a, T> {
     /// An empty tray over lent memory.
     pub fn new(slots: &'a mut [T]) -> Tray<'a, T>
         ensures items { items result ≡ [] }
@@ -39,7 +38,8 @@ impl<'a, T: Equality> Tray<'a, T> {
     pub fn as_slice(&self) -> &[T]
         ensures { result.now ≡ items self.now }
     {
-        front(&*self.slots, self.count)
+        let slots = &*self.slots;
+        slots.get(..self.count).unwrap_or(slots)
     }
 
     /// How many elements it holds.
@@ -55,42 +55,30 @@ impl<'a, T: Equality> Tray<'a, T> {
     {
         self.slots.len()
     }
-
-    /// The index of the slot after the last element, or none where every slot is used.
-    fn next_slot(&self) -> Option<usize>
-        ensures { MatchOption result
-            (length (items self.now) ≡ size_of self.now)
-            (λ i. (i < size_of self.now) × (i ≡ self.now.count) × (i ≡ length (items self.now))) }
-    {
-        if self.count < self.slots.len() {
-            Some(self.count)
-        } else {
-            None
-        }
-    }
 }
 
-impl<'a, T: Equality + Drop> Tray<'a, T> {
+impl<'a, T: Drop> Tray<'a, T> {
     /// Puts one element after the last. A full tray refuses and stays as it was.
     pub fn append(&mut self, x: T) -> Result<(), TrayFault>
         ensures { Append self.old x self.new result }
     {
-        let Some(slot) = self.next_slot() else {
+        let slot = self.len();
+        if slot == self.size() {
             return Err(TrayFault::Full {
                 needed: self.size() as u128 + 1,
             });
-        };
-        write(self.slots, slot, x);
+        }
+        self.slots[slot] = x;
         self.count = slot + 1;
         Ok(())
     }
 }
 
-impl<'a, T: Equality + Copy> Tray<'a, T> {
+impl<'a, T: Copy> Tray<'a, T> {
     /// The element at a place, counted from 1.
     pub fn at(&self, place: usize) -> Option<T>
         ensures { result ≡ item_at (items self.now) place }
     {
-        item_at(self.as_slice(), place)
+        self.as_slice().get(place.checked_sub(1)?).copied()
     }
 }

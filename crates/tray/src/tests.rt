@@ -70,6 +70,26 @@ fn places_count_from_one(rt: HostRuntime) {
 }
 
 #[test]
+fn places_in_plans_and_answers(rt: HostRuntime) {
+    let mut pairs = [(1u32, 2u32), (2, 1), (3, 3)];
+    let plan = Tray::holding(&mut pairs, 2);
+    let table = [
+        ((1, 2), Some(1)),
+        ((2, 1), Some(2)),
+        ((1, 1), None),
+        ((3, 3), None),
+    ];
+    for ((step, event), expected) in table {
+        assert_eq!(rt; plan.place_of_event(step, event), expected);
+    }
+    let mut signs = [3i32, -3, i32::MIN];
+    let answer = Tray::holding(&mut signs, 2);
+    for (number, expected) in [(3, Some(1)), (-3, Some(2)), (0, None), (i32::MIN, None)] {
+        assert_eq!(rt; answer.place_of_literal(number), expected);
+    }
+}
+
+#[test]
 fn the_first_equal_one_is_found(rt: HostRuntime) {
     let mut pairs = [(1u32, 2u32), (2, 1), (1, 2), (2, 2), (3, 3)];
     let plan = Tray::holding(&mut pairs, 4);

@@ -1,8 +1,7 @@
 //! The start's clauses, the agenda's and the kept ones of the first step, and the goal's as if the first step were still to come.
 
-ghost use Rattle.std.specs.Prelude.{◌≡◌, ◌≤◌, not, ◌&&◌, [], ◌∷◌, if◌then◌else◌, ◌==◌, nat_lt};
+ghost use Rattle.std.specs.Prelude.{◌≡◌, not, ◌&&◌, [], ◌∷◌, if◌then◌else◌, ◌==◌, nat_lt};
 ghost use Rattle.encoding.specs.Clauses.{agenda, goal, goal_facts, is, isnt, kept, none_open, numbered, start, start_facts};
-ghost use Rattle.encoding.specs.Limits.{action_limit};
 ghost use Rattle.encoding.specs.Ranges.{each, only};
 ghost use Rattle.encoding.specs.Tables.{harms, owner as owner_of};
 ghost use Rattle.encoding.specs.Variables.{O, Y, number};
@@ -12,6 +11,7 @@ ghost use Rattle.formula.specs.Parts.{kept_at};
 
 use super::Layout;
 use crate::clauses::{Clause, Literal};
+use crate::events::{Action, Event};
 use crate::groups::agenda_of;
 use crate::listing::Listing;
 use table::owner;
@@ -37,11 +37,11 @@ impl<'a> Layout<'a> {
     pub(crate) fn put_agenda<const N: usize>(&self, out: &mut Listing<N>)
         ensures { Joined out.old out.new (numbered (table_in self.now) (agenda (table_in self.now) 0)) }
     {
-        for i in 0..self.table.actions() {
-            let action = i + 1;
+        for number in 1..=self.table.actions() {
+            let action = Action { number };
             out.extend(&agenda_of(
-                self.event(2 * action - 1),
-                self.event(2 * action),
+                self.event(action.start()),
+                self.event(action.end()),
                 self.open_before(action),
                 self.open_after(action),
             ));
@@ -52,16 +52,15 @@ impl<'a> Layout<'a> {
     pub(crate) fn put_kept<const N: usize>(&self, out: &mut Listing<N>)
         ensures { Joined out.old out.new (numbered (table_in self.now) (kept (table_in self.now) 0)) }
     {
-        for i in 0..2 * self.table.actions() {
-            self.put_kept_from(i + 1, out);
+        for number in 1..=2 * self.table.actions() {
+            self.put_kept_from(Event { number }, out);
         }
     }
 
     fn put_start_facts<const N: usize>(&self, out: &mut Listing<N>)
         ensures { Joined out.old out.new (numbered (table_in self.now) (start_facts (table_in self.now))) }
     {
-        for i in 0..self.table.facts() {
-            let fact = i + 1;
+        for fact in 1..=self.table.facts() {
             out.push(Clause::One(literal(self.table.initial(fact), fact)));
         }
     }
@@ -69,8 +68,7 @@ impl<'a> Layout<'a> {
     fn put_goal_facts<const N: usize>(&self, out: &mut Listing<N>)
         ensures { Joined out.old out.new (numbered (table_in self.now) (goal_facts (table_in self.now) 0)) }
     {
-        for i in 0..self.table.facts() {
-            let fact = i + 1;
+        for fact in 1..=self.table.facts() {
             put_if(self.table.goal(fact), Clause::One(Literal::Is(fact)), out);
         }
     }
@@ -78,18 +76,18 @@ impl<'a> Layout<'a> {
     fn put_none_open<const N: usize>(&self, out: &mut Listing<N>)
         ensures { Joined out.old out.new (numbered (table_in self.now) (none_open (table_in self.now) 0)) }
     {
-        for i in 0..self.table.actions() {
-            out.push(Clause::One(Literal::Isnt(self.open_before(i + 1))));
+        for number in 1..=self.table.actions() {
+            let open = self.open_before(Action { number });
+            out.push(Clause::One(Literal::Isnt(open)));
         }
     }
 
     // The kept clauses of one event.
-    fn put_kept_from<const N: usize>(&self, event: u32, out: &mut Listing<N>)
-        requires { event ≤ 32 }
-        ensures { Joined out.old out.new (each (table_in self.now).actions (kept_at (table_in self.now) event)) }
+    fn put_kept_from<const N: usize>(&self, event: Event, out: &mut Listing<N>)
+        ensures { Joined out.old out.new (each (table_in self.now).actions (kept_at (table_in self.now) event.number)) }
     {
-        for i in 0..self.table.actions() {
-            let action = i + 1;
+        for number in 1..=self.table.actions() {
+            let action = Action { number };
             let open = self.open_at_turn(event, action);
             let clause = Clause::Two(Literal::Isnt(self.event(event)), Literal::Isnt(open));
             put_if(self.excludes(event, action), clause, out);
@@ -97,19 +95,17 @@ impl<'a> Layout<'a> {
     }
 
     // Whether the event deletes a held fact of an action that does not own it.
-    fn excludes(&self, event: u32, action: u32) -> bool
-        ensures { result ≡ (not (action == owner_of event) && harms (table_in self.now) event action) }
+    fn excludes(&self, event: Event, action: Action) -> bool
+        ensures { result ≡ (not (action.number == owner_of event.number) && harms (table_in self.now) event.number action.number) }
     {
-        let harms = self.table.harms(event, action);
-        action != owner(event) && harms
+        action.number != owner(event.number) && self.table.harms(event.number, action.number)
     }
 
     // Whether the action is open at the event's turn: the turns of an action below the owner are past then, those of one above are not.
-    fn open_at_turn(&self, event: u32, action: u32) -> u32
-        requires { action ≤ action_limit }
-        ensures { result ≡ number (table_in self.now) (O (if nat_lt action (owner_of event) then 1 else 0) action) }
+    fn open_at_turn(&self, event: Event, action: Action) -> u32
+        ensures { result ≡ number (table_in self.now) (O (if nat_lt action.number (owner_of event.number) then 1 else 0) action.number) }
     {
-        if action < owner(event) {
+        if action.number < owner(event.number) {
             self.open_after(action)
         } else {
             self.open_before(action)

@@ -1,12 +1,13 @@
 //! The numbers of the variables of the beginning and of the first step.
 
 ghost use Rattle.std.specs.Prelude.{◌≡◌, ◌+◌, ◌≤◌};
-ghost use Rattle.encoding.specs.Limits.{action_limit, fact_limit};
+ghost use Rattle.encoding.specs.Limits.{fact_limit};
 ghost use Rattle.encoding.specs.Tables.{events as events_of};
 ghost use Rattle.encoding.specs.Variables.{O, X, Y, number, step_size, variables};
 ghost use Rattle.formula.specs.Layouts.{table_in};
 
 use super::Layout;
+use crate::events::{Action, Event};
 use crate::widths::pairs;
 use table::Table;
 
@@ -42,11 +43,10 @@ impl<'a> Layout<'a> {
     }
 
     /// Whether an event is in the first step.
-    pub(crate) fn event(&self, event: u32) -> u32
-        requires { event ≤ 32 }
-        ensures { result ≡ number (table_in self.now) (Y 1 event) }
+    pub(crate) fn event(&self, event: Event) -> u32
+        ensures { result ≡ number (table_in self.now) (Y 1 event.number) }
     {
-        self.before_steps() + event
+        self.before_steps() + event.number
     }
 
     /// Whether a fact is true after the first step.
@@ -58,18 +58,16 @@ impl<'a> Layout<'a> {
     }
 
     /// Whether an action is open at the beginning.
-    pub(crate) fn open_before(&self, action: u32) -> u32
-        requires { action ≤ action_limit }
-        ensures { result ≡ number (table_in self.now) (O 0 action) }
+    pub(crate) fn open_before(&self, action: Action) -> u32
+        ensures { result ≡ number (table_in self.now) (O 0 action.number) }
     {
-        self.table.facts() + action
+        self.table.facts() + action.number
     }
 
     /// Whether an action is open after the first step.
-    pub(crate) fn open_after(&self, action: u32) -> u32
-        requires { action ≤ action_limit }
-        ensures { result ≡ number (table_in self.now) (O 1 action) }
+    pub(crate) fn open_after(&self, action: Action) -> u32
+        ensures { result ≡ number (table_in self.now) (O 1 action.number) }
     {
-        self.before_pairs() + self.pairs + self.table.facts() + action
+        self.before_pairs() + self.pairs + self.table.facts() + action.number
     }
 }

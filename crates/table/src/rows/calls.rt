@@ -48,12 +48,9 @@ impl Table {
         ensures answer { result ≡ note_answer (entries_of self.old) role action fact }
         ensures after { entries_of self.new ≡ after_note (entries_of self.old) role action fact }
     {
-        let Some(known) = Role::numbered(role) else {
-            return Err(NoteFault::RoleOutOfLimits);
-        };
+        let known = Role::try_from(role)?;
         self.permits_note(known, action, fact)?;
-        let place = known.number() as usize;
-        self.rows[place].add(action, fact);
+        self.rows[u32::from(known) as usize].add(action, fact);
         self.begun = true;
         Ok(())
     }
@@ -76,7 +73,7 @@ impl Table {
         if !takes(self.actions, role, action) {
             return Err(NoteFault::ActionOutOfLimits);
         }
-        if fact < 1 || fact > self.facts {
+        if !(1..=self.facts).contains(&fact) {
             return Err(NoteFault::FactOutOfLimits);
         }
         if self.noted(role, action, fact) {
@@ -106,7 +103,7 @@ impl Table {
 fn in_limits(facts: u32, actions: u32) -> bool
     ensures { result ≡ sized facts actions }
 {
-    1 <= facts && facts <= MOST_FACTS && 1 <= actions && actions <= MOST_ACTIONS
+    (1..=MOST_FACTS).contains(&facts) && (1..=MOST_ACTIONS).contains(&actions)
 }
 
 // Initial facts and goals take action 0, the other roles one of the table's actions.
@@ -115,6 +112,6 @@ fn takes(actions: u32, role: Role, action: u32) -> bool
 {
     match role {
         Role::Initial | Role::Goal => action == 0,
-        _ => 1 <= action && action <= actions,
+        _ => (1..=actions).contains(&action),
     }
 }

@@ -1,6 +1,6 @@
 //! What a table says of a fact, an event or an action. Of numbers out of limits it says `false`.
 
-ghost use Rattle.std.specs.Prelude.{◌≡◌, ℕ, not, ◌&&◌, ◌||◌, if◌then◌else◌};
+ghost use Rattle.std.specs.Prelude.{◌≡◌, ℕ, if◌then◌else◌};
 ghost use Rattle.encoding.specs.Tables.{harms as is_harm, requires as is_required, starts as is_start};
 ghost use Rattle.table.specs.Memory.{marked};
 ghost use Rattle.table.specs.Model.{entries_of, meant};
@@ -12,19 +12,18 @@ use crate::marks::Marks;
 use crate::roles::Role;
 
 impl Table {
+    // role, action and fact stay three parameters: each look-up has them apart, and a struct would only be made to be taken apart
     pub(crate) fn noted(&self, role: Role, action: u32, fact: u32) -> bool
         ensures { result ≡ (entries_of self.now).noted role action fact }
     {
-        let place = role.number() as usize;
-        self.rows[place].has(action, fact)
+        self.rows[u32::from(role) as usize].has(action, fact)
     }
 
     /// The facts noted in a role for an action.
     pub(crate) fn facts_of(&self, role: Role, action: u32) -> Marks<FACT_PLACES>
         ensures { (p : ℕ) → marked result p ≡ (entries_of self.now).noted role action p }
     {
-        let place = role.number() as usize;
-        self.rows[place].facts(action)
+        self.rows[u32::from(role) as usize].facts(action)
     }
 
     pub fn initial(&self, fact: u32) -> bool
@@ -45,6 +44,7 @@ impl Table {
         self.noted(Role::Held, action, fact)
     }
 
+    // what an event needs, adds and deletes are one look-up, at the event's action, in the role of its kind
     pub(crate) fn needs(&self, event: u32, fact: u32) -> bool
         ensures { result ≡ (meant self.now).needs event fact }
     {
@@ -79,26 +79,15 @@ impl Table {
     pub fn requires_fact(&self, event: u32, fact: u32) -> bool
         ensures { result ≡ is_required (meant self.now) event fact }
     {
-        let held = self.held(owner(event), fact);
-        required(
-            self.needs(event, fact),
-            starts(event),
-            held,
-            self.adds(event, fact),
-        )
+        self.needs(event, fact)
+            || starts(event) && self.held(owner(event), fact) && !self.adds(event, fact)
     }
 
     /// Whether the event deletes a held fact of the action.
     pub fn harms(&self, event: u32, action: u32) -> bool
         ensures { result ≡ is_harm (meant self.now) event action }
     {
-        for i in 0..self.facts {
-            let fact = i + 1;
-            if both(self.held(action, fact), self.deletes(event, fact)) {
-                return true;
-            }
-        }
-        false
+        (1..=self.facts).any(|fact| self.held(action, fact) && self.deletes(event, fact))
     }
 }
 
@@ -107,16 +96,4 @@ pub(super) fn by_kind(event: u32, start: Role, end: Role) -> Role
     ensures { result ≡ (if is_start event then start else end) }
 {
     if starts(event) { start } else { end }
-}
-
-fn required(needs: bool, starts: bool, held: bool, adds: bool) -> bool
-    ensures { result ≡ (needs || (starts && (held && not adds))) }
-{
-    needs || (starts && held && !adds)
-}
-
-fn both(a: bool, b: bool) -> bool
-    ensures { result ≡ (a && b) }
-{
-    a && b
 }

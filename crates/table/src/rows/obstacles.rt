@@ -1,6 +1,6 @@
 //! When an event runs and what it does, and what is left undone at the end.
 
-ghost use Rattle.std.specs.Prelude.{◌≡◌, ◌≤◌, not, ◌&&◌};
+ghost use Rattle.std.specs.Prelude.{◌≡◌, ◌≤◌};
 ghost use Rattle.encoding.specs.Plans.{after, initially as at_first};
 ghost use Rattle.table.specs.Model.{meant};
 ghost use Rattle.table.specs.States.{state_of};
@@ -29,29 +29,19 @@ impl Table {
     pub(super) fn obstacle(&self, event: u32, state: &State) -> Option<Obstacle>
         ensures { result ≡ obstacle_of (meant self.now) event (state_of state.now) }
     {
-        if let Some(fact) = self.lacking(event, state) {
-            return Some(Obstacle::RequiredFactFalse(fact));
-        }
-        if let Some(obstacle) = agenda_obstacle(event, state) {
-            return Some(obstacle);
-        }
-        match self.robbed(event, state) {
-            Some(action) => Some(Obstacle::HeldFactDeleted(action)),
-            None => None,
-        }
+        self.lacking(event, state)
+            .map(Obstacle::RequiredFactFalse)
+            .or_else(|| agenda_obstacle(event, state))
+            .or_else(|| self.robbed(event, state).map(Obstacle::HeldFactDeleted))
     }
 
     /// What is left undone in a state, if it is the end.
     pub(super) fn unmet(&self, state: &State) -> Option<Unmet>
         ensures { result ≡ unmet_of (meant self.now) (state_of state.now) }
     {
-        if let Some(action) = self.left_open(state) {
-            return Some(Unmet::ActionLeftOpen(action));
-        }
-        match self.missing_goal(state) {
-            Some(fact) => Some(Unmet::GoalFactFalse(fact)),
-            None => None,
-        }
+        self.left_open(state)
+            .map(Unmet::ActionLeftOpen)
+            .or_else(|| self.missing_goal(state).map(Unmet::GoalFactFalse))
     }
 
     // The state after an event of the table.
@@ -74,56 +64,30 @@ impl Table {
     fn lacking(&self, event: u32, state: &State) -> Option<u32>
         ensures { result ≡ lowest (meant self.now).facts (lacks (meant self.now) event (state_of state.now)) }
     {
-        for i in 0..self.facts {
-            let fact = i + 1;
-            if but_not(self.requires_fact(event, fact), state.holds(fact)) {
-                return Some(fact);
-            }
-        }
-        None
+        (1..=self.facts).find(|&fact| self.requires_fact(event, fact) && !state.holds(fact))
     }
 
     // The lowest other open action of which the event deletes a held fact.
     fn robbed(&self, event: u32, state: &State) -> Option<u32>
         ensures { result ≡ lowest (meant self.now).actions (robs (meant self.now) event (state_of state.now)) }
     {
-        for i in 0..self.actions {
-            let action = i + 1;
-            if robbing(
-                action == owner(event),
-                state.is_open(action),
-                self.harms(event, action),
-            ) {
-                return Some(action);
-            }
-        }
-        None
+        (1..=self.actions).find(|&action| {
+            action != owner(event) && state.is_open(action) && self.harms(event, action)
+        })
     }
 
     // The lowest open action.
     fn left_open(&self, state: &State) -> Option<u32>
         ensures { result ≡ lowest (meant self.now).actions (state_of state.now).is_open }
     {
-        for i in 0..self.actions {
-            let action = i + 1;
-            if state.is_open(action) {
-                return Some(action);
-            }
-        }
-        None
+        (1..=self.actions).find(|&action| state.is_open(action))
     }
 
     // The lowest goal fact that is false.
     fn missing_goal(&self, state: &State) -> Option<u32>
         ensures { result ≡ lowest (meant self.now).facts (misses (meant self.now) (state_of state.now)) }
     {
-        for i in 0..self.facts {
-            let fact = i + 1;
-            if but_not(self.goal(fact), state.holds(fact)) {
-                return Some(fact);
-            }
-        }
-        None
+        (1..=self.facts).find(|&fact| self.goal(fact) && !state.holds(fact))
     }
 }
 
@@ -137,16 +101,4 @@ fn agenda_obstacle(event: u32, state: &State) -> Option<Obstacle>
         (false, false) => Some(Obstacle::ActionNotOpen(action)),
         _ => None,
     }
-}
-
-fn but_not(a: bool, b: bool) -> bool
-    ensures { result ≡ (a && not b) }
-{
-    a && !b
-}
-
-fn robbing(own: bool, is_open: bool, harms: bool) -> bool
-    ensures { result ≡ (not own && (is_open && harms)) }
-{
-    !own && is_open && harms
 }

@@ -1,12 +1,12 @@
 //! Plans, run on a table from the beginning: a list of pairs is a valid plan, or there is a first reason why not.
 
-ghost use Rattle.std.specs.Prelude.{◌≡◌, ℕ, ◌<◌, ◌≤◌, true, false, ◌&&◌, length, None, MatchOption, slice_index_or};
-ghost use Rattle.encoding.specs.Plans.{Valid, initially as at_first, run as run_of};
+ghost use Rattle.std.specs.Prelude.{◌≡◌, ℕ, ◌<◌, ◌≤◌, true, false, ◌&&◌, length, MatchOption, slice_index_or};
+ghost use Rattle.encoding.specs.Plans.{initially as at_first, run as run_of};
 ghost use Rattle.encoding.specs.Tables.{events as events_of};
 ghost use Rattle.table.specs.Entries.{from};
 ghost use Rattle.table.specs.Model.{meant};
 ghost use Rattle.table.specs.States.{state_of};
-ghost use Rattle.table.specs.Verdicts.{Decides, Played, comes_before, events_in, in_place, misplaced as misplaced_at, plan_answer, plan_fault};
+ghost use Rattle.table.specs.Verdicts.{Decides, Played, comes_before, events_in, in_place, misplaced as misplaced_at, plan_answer};
 
 use super::Table;
 use crate::faults::PlanFault;
@@ -19,27 +19,14 @@ impl Table {
         ensures answer { result ≡ plan_answer (meant self.now) n plan.now }
         ensures decides { Decides (meant self.now) n plan.now result }
     {
-        match self.first_fault(n, plan) {
-            Some(fault) => Err(fault),
-            None => Ok(()),
-        }
-    }
-
-    fn first_fault(&self, n: u32, plan: &[(u32, u32)]) -> Option<PlanFault>
-        ensures fault { result ≡ plan_fault (meant self.now) n plan.now }
-        ensures valid { result ≡ None → Valid (meant self.now) n plan.now }
-        ensures invalid { Valid (meant self.now) n plan.now → result ≡ None }
-    {
         if let Some(place) = self.misplaced(n, plan) {
-            return Some(PlanFault::Misplaced { place });
+            return Err(PlanFault::Misplaced { place });
         }
-        match self.play(plan) {
-            Ok(state) => match self.unmet(&state) {
-                Some(unmet) => Some(PlanFault::WrongEnding { unmet }),
-                None => None,
-            },
-            Err(fault) => Some(fault),
+        let end = self.play(plan)?;
+        if let Some(unmet) = self.unmet(&end) {
+            return Err(PlanFault::WrongEnding { unmet });
         }
+        Ok(())
     }
 
     /// The state after a list of events, whether or not each runs in its turn. None if one of them is no event of the table.
@@ -47,22 +34,17 @@ impl Table {
         ensures { MatchOption result (events_in (meant self.now) plan.now ≡ false)
             (λ s. (events_in (meant self.now) plan.now ≡ true) × (state_of s ≡ run_of (meant self.now) (at_first (meant self.now)) plan.now)) }
     {
-        if !self.all_events(plan) {
+        if !self.are_events(plan) {
             return None;
         }
         Some(self.run_all(plan))
     }
 
     // Whether each event is one of the table's.
-    fn all_events(&self, plan: &[(u32, u32)]) -> bool
+    fn are_events(&self, plan: &[(u32, u32)]) -> bool
         ensures { result ≡ events_in (meant self.now) plan.now }
     {
-        for pair in plan {
-            if !self.is_event(pair.1) {
-                return false;
-            }
-        }
-        true
+        plan.iter().all(|pair| self.is_event(pair.1))
     }
 
     // The state after the events, which are the table's.
@@ -70,6 +52,7 @@ impl Table {
         requires { events_in (meant self.now) plan.now ≡ true }
         ensures { state_of result ≡ run_of (meant self.now) (at_first (meant self.now)) plan.now }
     {
+        // a fold's closure would have to be shown anew, at each turn, that the event is the table's
         let mut state = self.initially();
         for pair in plan {
             state = self.run(pair.1, state);
@@ -95,14 +78,14 @@ impl Table {
         ensures { result ≡ (in_place (meant self.now) n pair && comes_before before pair) }
     {
         let (step, event) = pair;
-        1 <= step && step <= n && self.is_event(event) && comes_before(before, pair)
+        (1..=n).contains(&step) && self.is_event(event) && before < pair
     }
 
     // Whether it is one of the table's events.
     fn is_event(&self, event: u32) -> bool
         ensures { result ≡ from 1 (events_of (meant self.now)) event }
     {
-        1 <= event && event <= 2 * self.actions
+        (1..=2 * self.actions).contains(&event)
     }
 
     // The state after all events, if each runs in its turn.
@@ -123,10 +106,4 @@ impl Table {
         }
         Ok(state)
     }
-}
-
-fn comes_before(a: (u32, u32), b: (u32, u32)) -> bool
-    ensures { result ≡ comes_before a b }
-{
-    a.0 < b.0 || (a.0 == b.0 && a.1 < b.1)
 }

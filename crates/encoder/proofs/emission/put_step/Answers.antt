@@ -1,23 +1,23 @@
 -- The three families, one after another.
 -- Assumes nothing.
-use Rattle.std.proofs.Common.{◌*◌, ◌++◌, sym, ap, ◌∙◌, subst, ap₂}
-use Rattle.std.specs.List.{AllByRecursion}
+use Rattle.std.proofs.Common.{◌*◌, ◌++◌, sym, ap, ◌∙◌, ap₂}
 use Rattle.formula.specs.declared.template.Family.TheVariants.{Agenda, Kept, Truth}
-use Rattle.formula.specs.Templates.{said, shifted}
-use Rattle.encoder.specs.Puts.{InLimits, signs}
+use Rattle.formula.specs.Listings.{shifted}
+use Rattle.formula.specs.Templates.{said}
+use Rattle.encoder.specs.Puts.{signs}
 use Rattle.encoder.proofs.Adding.{adds-more, adds-two}
 use Rattle.encoder.proofs.Moved.{signs-append}
-use Rattle.encoder.proofs.Steps.{agenda-limits, family-is, kept-limits, truth-limits}
+use Rattle.encoder.proofs.Steps.{family-is}
 use Rattle.encoder.proofs.emission.put_step.Goals as goal
 
 pub put_all-requires : goal.put_all-requires
-put_all-requires g c = subst (AllByRecursion (AllByRecursion InLimits)) (sym (family-is c.args.template.now Agenda _ _ _ (ap (λ k. c.args.step * k) c.step_size.ensures) c.family.ensures)) (agenda-limits c.args.template.now c.args.step c.requires.limits)
+put_all-requires g c = rw (c.family.ensures, c.step_size.ensures) (c.args.template.now.agenda_in c.args.step c.requires)
 
 pub put_all-requires-2 : goal.put_all-requires-2
-put_all-requires-2 g c = subst (AllByRecursion (AllByRecursion InLimits)) (sym (family-is c.args.template.now Kept _ _ _ (ap (λ k. c.args.step * k) c.step_size.ensures) c.family-2.ensures)) (kept-limits c.args.template.now c.args.step c.requires.limits)
+put_all-requires-2 g c = rw (c.family-2.ensures, c.step_size.ensures) (c.args.template.now.kept_in c.args.step c.requires)
 
 pub put_all-requires-3 : goal.put_all-requires-3
-put_all-requires-3 g c = subst (AllByRecursion (AllByRecursion InLimits)) (sym (family-is c.args.template.now Truth _ _ _ (ap (λ k. c.args.step * k) c.step_size.ensures) c.family-3.ensures)) (truth-limits c.args.template.now c.args.step c.requires.limits)
+put_all-requires-3 g c = rw (c.family-3.ensures, c.step_size.ensures) (c.args.template.now.truth_in c.args.step c.requires)
 
 pub returns : goal.returns
 returns g c =

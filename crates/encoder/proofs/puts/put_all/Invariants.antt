@@ -2,7 +2,7 @@
 -- Assumes nothing.
 use Rattle.std.proofs.Common.{map, take}
 use Rattle.formula.specs.Listings.{lits}
-use Rattle.formula.specs.Templates.{shifted}
+use Rattle.formula.specs.Listings.{shifted}
 use Rattle.encoder.specs.Puts.{Adds, signs}
 use Rattle.encoder.proofs.puts.put_all.Given as goal
 

@@ -6,10 +6,10 @@ use Rattle.store.proofs.Memory.{numbers-left}
 use Rattle.stores_demo.specs.Chain.{chain}
 use Rattle.stores_demo.proofs.chain.chain_numbers.Goals as goal
 
-pub returns-in-Ok : goal.returns-in-Ok
-returns-in-Ok c =
+pub returns : goal.returns
+returns c =
     let t = c.put_chain.new.store in
-    let p = c.in-Ok.ensures in
+    let p = c.in_ok-put_chain.ensures in
     let n = c.new-store.ensures in
     let left = numbers-left c.new-store.result t c.args.numbers.now (chain c.args.n) n.memory p.grows (p.puts.added.joined ∙ ap (λ cs. cs ++ chain c.args.n) n.empty) in
     let m : t.numbers.now ≡ over (numbers_of (chain c.args.n)) c.args.numbers.now = left.1 in (

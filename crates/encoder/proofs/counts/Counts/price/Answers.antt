@@ -11,6 +11,6 @@ overflow_add-result-2 g c =
     let b : get_or c.price_list.result 1 0 ≤ 64 = omega (arith, p.two.1, ap (λ r. get_or r 1 0) c.price_list.ensures) in
     let d : get_or c.price_list.result 2 0 ≤ 64 = omega (arith, p.three.1, ap (λ r. get_or r 2 0) c.price_list.ensures) in
     let x = once-small c.args.self.now.ones _ c.args.self.now.few.0 a in
-    let y = steps-small c.args.n c.args.self.now.twos _ c.requires c.args.self.now.few.1 b in
-    let z = steps-small c.args.n c.args.self.now.threes _ c.requires c.args.self.now.few.2 d in
+    let y = steps-small c.args.steps.count c.args.self.now.twos _ c.args.steps.few c.args.self.now.few.1 b in
+    let z = steps-small c.args.steps.count c.args.self.now.threes _ c.args.steps.few c.args.self.now.few.2 d in
     omega arith

@@ -5,7 +5,7 @@ use Rattle.encoding.specs.Variables.{number}
 use Rattle.formula.proofs.layout.Layout.event.Goals as goal
 
 pub overflow_add-result : goal.overflow_add-result
-overflow_add-result c = omega (arith, c.before_steps.ensures.few, c.requires)
+overflow_add-result c = omega (arith, c.before_steps.ensures.few, c.args.event.few)
 
 pub returns : goal.returns
 unfolding number

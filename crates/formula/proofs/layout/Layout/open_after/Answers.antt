@@ -11,7 +11,7 @@ pub overflow_add-result-2 : goal.overflow_add-result-2
 overflow_add-result-2 c = omega (arith, c.before_pairs.ensures.few, c.args.self.now.few, c.args.self.now.table.now.sizes, c.facts.ensures)
 
 pub overflow_add-result-3 : goal.overflow_add-result-3
-overflow_add-result-3 c = omega (arith, c.before_pairs.ensures.few, c.args.self.now.few, c.args.self.now.table.now.sizes, c.facts.ensures, c.requires)
+overflow_add-result-3 c = omega (arith, c.before_pairs.ensures.few, c.args.self.now.few, c.args.self.now.table.now.sizes, c.facts.ensures, c.args.action.few)
 
 pub returns : goal.returns
 unfolding number

@@ -8,23 +8,22 @@ use Rattle.store.proofs.text.TextStore.new.Goals as goal
 
 pub invariant_of-result-2 : goal.invariant_of-result-2
 invariant_of-result-2 c =
-    let h = c.write_header.new.header in
+    let h = c.write.new.bytes in
     let d = c.args.bytes.now in
-    let e : h ≡ header_of width 0 0 = c.write_header.ensures in
+    let e : h ≡ header_of width 0 0 = c.write.ensures in
     let l : header_length ≤ length d = c.if-bytes-lt-HEADER.false in
     record {
       within = omega (arith, head-all h d e l);
       shown = head-shown h d e l;
       counted = sym (ap length (head-empty h d e l));
       greatest = sym (ap largest_in (head-empty h d e l));
-      named = omega arith;
     }
 
 pub returns : goal.returns
 returns c =
-    let h = c.write_header.new.header in
+    let h = c.write.new.bytes in
     let d = c.args.bytes.now in
-    let e : h ≡ header_of width 0 0 = c.write_header.ensures in
+    let e : h ≡ header_of width 0 0 = c.write.ensures in
     let l : header_length ≤ length d = c.if-bytes-lt-HEADER.false in
     let t : ltb (length d) header_length ≡ false = grind (arith, nat_tests) in
     record {

@@ -1,23 +1,12 @@
--- The lowest number that is required and false is found, or there is none.
+-- The lowest required fact that is false.
 -- Assumes nothing.
-use Rattle.std.proofs.Common.{◌≡◌, not, ◌&&◌, sym, ap, ◌∙◌, ap₂, arith}
+use Rattle.std.proofs.Common.{rules, tests}
 use Rattle.table.specs.Model.{meant}
 use Rattle.table.specs.States.{state_of}
-use Rattle.table.specs.Verdicts.{lowest, lacks}
-use Rattle.table.proofs.Lowest.{lowest-none, lowest-more, lowest-found}
+use Rattle.table.specs.Verdicts.{lacks}
+use Rattle.table.proofs.Lowest.{lowest-found}
 use Rattle.table.proofs.rows.Table.lacking.Goals as goal
-
-pub loop-i-init : goal.loop-i-init
-loop-i-init c = lowest-none _
-
-pub loop-i-preserved : goal.loop-i-preserved
-loop-i-preserved c = lowest-more c.loop-i.i (lacks (meant c.args.self.now) c.args.event (state_of c.args.state.now)) c.loop-i.invariant (sym (ap₂ (λ a b. a && not b) c.requires_fact.ensures c.holds.ensures) ∙ sym c.if-but_not.ensures)
-
-pub returns-then-but_not : goal.returns-then-but_not
-returns-then-but_not c =
-    lowest-found c.args.self.now.facts c.loop-i.i (lacks (meant c.args.self.now) c.args.event (state_of c.args.state.now)) c.loop-i.invariant (sym (ap₂ (λ a b. a && not b) c.requires_fact.ensures c.holds.ensures) ∙ sym c.if-but_not.ensures) (omega arith)
 
 pub returns : goal.returns
 returns c =
-    let e : c.loop-i.i ≡ c.args.self.now.facts = omega arith in
-    sym c.loop-i.invariant ∙ ap (λ n. lowest n (lacks (meant c.args.self.now) c.args.event (state_of c.args.state.now))) e
+    lowest-found c.args.self.now.facts (lacks (meant c.args.self.now) c.args.event (state_of c.args.state.now)) _ _ c.new.ensures.start c.new.ensures.end c.new.ensures.exhausted _ c.find.ensures.ran (λ x b q k. search (rules, tests))

@@ -11,7 +11,7 @@ use Rattle.table.specs.declared.roles.Role.TheVariants.{StartAdds, StartDeletes,
 use Rattle.table.specs.Entries.{Entries}
 use Rattle.table.specs.Memory.{marked}
 use Rattle.table.specs.Model.{entries_of}
-use Rattle.table.proofs.Numbers.{and-true}
+use Rattle.std.proofs.Math.Bool.{and-true}
 use Rattle.table.proofs.rows.Table.run.Goals as goal
 
 small : (e : ℕ) → e < 33 → owner e < 17

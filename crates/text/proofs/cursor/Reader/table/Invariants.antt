@@ -5,12 +5,13 @@ use Rattle.table.specs.Entries.{Entries}
 use Rattle.text.specs.declared.cursor.Reader.{Reader}
 use Rattle.text.specs.declared.faults.Stop.{Stop}
 use Rattle.text.specs.Ends.{Ends}
+use Rattle.text.specs.Tags.{rank_in}
 use Rattle.text.proofs.cursor.Reader.table.Given as goal
 
 abbrev pub invariant-loop-line : goal.invariant-loop-line
 invariant-loop-line l =
     (r : Result ℕ Stop) (T : Entries) (q : Reader)
-    → Ends l.from l.steps (in_draft l.draft) l.self r T q
+    → Ends (rank_in l.last) l.steps (in_draft l.draft) l.self r T q
     → Ends 0 0 (in_draft l.initial.draft) l.initial.self r T q
 
 abbrev pub decreases-loop-line : goal.decreases-loop-line
