@@ -8,7 +8,7 @@ use super::AnswerSource;
 pub fn lowest_missing<S: AnswerSource>(source: &S, variables: u32) -> Option<u32>
     ensures { Lowest (S.AnswerSource.tells source.now) variables result }
 {
-    // A loop: of `find` over `1..=variables` it stays open which numbers the range gave.
+    // A loop: `find` wants a lemma on which numbers a range gives, and no crate below has it.
     for variable in 1..=variables {
         if source.value(variable).is_none() {
             return Some(variable);

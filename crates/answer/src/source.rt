@@ -3,7 +3,7 @@
 ghost use Rattle.std.specs.Prelude.{◌≡◌, ℕ, Bool, false, None, Option};
 ghost use Rattle.answer.specs.Variables.{is_variable};
 
-/// Variables are numbered from 1 to this.
+/// Variables are numbered from 1 to this. The crate `store` has the same limit: neither knows the other.
 pub const LARGEST_VARIABLE: u32 = 99_999;
 
 /// A source of values for variables.

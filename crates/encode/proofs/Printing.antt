@@ -1,6 +1,6 @@
 -- From what was written into the store to what is printed.
 -- Assumes nothing.
-use Rattle.std.proofs.Common.{rules, Option, vec_items, min, length, replicate, ◌≡◌, ℕ, ◌-◌, List, [], ◌++◌, ℤ, Ok, Err, Result, ap, ◌∙◌, subst, arith}
+use Rattle.std.proofs.Common.{rules, Option, vec_items, min, length, replicate, ◌≡◌, ℕ, ◌-◌, List, [], ◌++◌, ℤ, Ok, Err, Result, ap, ◌∙◌, subst}
 use lib.ListN.{length-replicate}
 use Rattle.encoder.specs.Emission.{emit_answer}
 use Rattle.encoding.specs.Clauses.{signed_formula}
@@ -27,13 +27,13 @@ module _ {X : Type 0} (held : X → List (List ℤ)) (units : X → ℕ) (s t : 
   prints-refusal r refusal e (exceeds l q w) = long l (cc)
   prints-refusal r refusal e (not_read f E h q w) = unread f E h (cc)
   prints-refusal r refusal e (not_put n rest E f h a q w) = refused n rest E f h (subst (λ (k : ℕ). emit_answer (meaning E) n text_prices k ≡ Err f) free a) (cc)
-  prints-refusal r refusal e (put n rest E k h a q w) = absurd (let z : ◌≡◌ {A = ℕ} 0 1 = cc in omega arith)
+  prints-refusal r refusal e (put n rest E k h a q w) = cc
 
   -- the clauses, as their text
   pub prints-text : (r : Result ℕ Refusal) (count : ℕ) (text : List ℕ) → r ≡ Ok count → held s ≡ [] → Written held units text_prices s t input r → text ≡ text_of width (held t) → Prints input (Ok text)
-  prints-text r count text e z (exceeds l q w) p = absurd (let i : ◌≡◌ {A = ℕ} 0 1 = cc in omega arith)
-  prints-text r count text e z (not_read f E h q w) p = absurd (let i : ◌≡◌ {A = ℕ} 0 1 = cc in omega arith)
-  prints-text r count text e z (not_put n rest E f h a q w) p = absurd (let i : ◌≡◌ {A = ℕ} 0 1 = cc in omega arith)
+  prints-text r count text e z (exceeds l q w) p = cc
+  prints-text r count text e z (not_read f E h q w) p = cc
+  prints-text r count text e z (not_put n rest E f h a q w) p = cc
   prints-text r count text e z (put n rest E k h a q w) p =
       granted n rest E k h (subst (λ (j : ℕ). emit_answer (meaning E) n text_prices j ≡ Ok k) free a)
       (ap Ok (p ∙ ap (text_of width) (w.joined ∙ ap (λ cs. cs ++ signed_formula (meaning E) n) z)))

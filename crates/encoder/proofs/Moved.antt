@@ -4,7 +4,7 @@ use Rattle.std.proofs.Common.{◌≡◌, ℕ, zero, suc, ◌+◌, ◌<◌, ◌�
 use lib.ListN.{length-map}
 use Rattle.std.specs.List.{AllByRecursion}
 use Rattle.std.proofs.ByRecursion.{All-get_or}
-use Rattle.std.proofs.lemmas.List.{get_or-map, map-append, take_all, take_more}
+use Rattle.std.proofs.lemmas.List.{get_or-map, map-append, map_more, take_all}
 use Rattle.encoding.specs.Clauses.{Literal, is, isnt, rename, signed}
 use Rattle.store.specs.Clauses.{is_literal}
 use Rattle.store.proofs.Meaning.{literal-neg, literal-pos}
@@ -42,7 +42,7 @@ shifted-append k cs ds = map-append (map (rename (λ v. v + k))) cs ds
 
 pub signs-more : (k : ℕ) (cs : List Clause) (i : ℕ) (d : Clause) → i < length cs → signs (shifted k (map lits (take i cs))) ++ map signed (moved k (get_or cs i d)) ∷ [] ≡ signs (shifted k (map lits (take (i + 1) cs)))
 signs-more k cs i d l =
-    sym (ap (λ xs. signs (shifted k xs)) (ap (map lits) (take_more cs i d l) ∙ map-append lits (take i cs) (get_or cs i d ∷ []))
+    sym (ap (λ xs. signs (shifted k xs)) (map_more lits cs i d l)
     ∙ ap signs (shifted-append k (map lits (take i cs)) (lits (get_or cs i d) ∷ []))
     ∙ signs-append (shifted k (map lits (take i cs))) (moved k (get_or cs i d) ∷ []))
 

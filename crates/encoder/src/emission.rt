@@ -1,4 +1,6 @@
 //! A table's clause list for n steps, put into a store: all of it, or nothing.
+//!
+//! A store's held, units, prices and grew stand in each contract: they are members of the bound, and a clause names such members one by one.
 
 ghost use Rattle.std.specs.Prelude.{◌≡◌, ◌<◌};
 ghost use Rattle.encoder.specs.Emission.{Emitted, emit_answer};
@@ -67,6 +69,7 @@ fn put_step<S: ClauseStore>(store: &mut S, template: &Template, step: u32)
     ensures grows { S.ClauseStore.grew store.old store.new }
 {
     let shift = step * template.step_size();
+    // a loop over a list of the three families is no shorter
     put_all(store, template.family(Family::Agenda), shift);
     put_all(store, template.family(Family::Kept), shift);
     put_all(store, template.family(Family::Truth), shift);

@@ -35,6 +35,7 @@ impl From<StepsOutOfLimits> for EmitFault {
     }
 }
 
+// one impl for every fault would overlap with std's own `From<T> for T`, since a refusal is a fault too
 impl From<EmitFault> for Refusal {
     ghost from_gives = { λ e r. r ≡ emit_refusal e };
 

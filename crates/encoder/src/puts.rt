@@ -1,4 +1,6 @@
 //! Clauses of a template, put into a store with a number added to each variable.
+//!
+//! A store's held, units, prices and grew stand in each contract: they are members of the bound, and a clause names such members one by one.
 
 ghost use Rattle.std.specs.Prelude.{◌≡◌, ◌+◌, true, [], ◌∷◌, map};
 ghost use Rattle.encoder.specs.Puts.{Adds, moved, signs};

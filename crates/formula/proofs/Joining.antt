@@ -1,7 +1,7 @@
 -- How listings grow: nothing, one part more, one more of a range.
 -- Assumes nothing.
-use Rattle.std.proofs.Common.{◌≡◌, ℕ, ◌+◌, ◌-◌, ◌<◌, ◌≤◌, List, [], ◌∷◌, ◌++◌, map, length, get_or, take, set, sym, ap, ◌∙◌, subst, append_assoc, append-nil, arith, length-append}
-use Rattle.std.proofs.lemmas.List.{map-append, take_all, take_more, take_more_set}
+use Rattle.std.proofs.Common.{◌≡◌, ℕ, ◌+◌, ◌-◌, ◌<◌, ◌≤◌, List, [], ◌∷◌, ◌++◌, map, length, get_or, take, sym, ap, ◌∙◌, subst, append_assoc, append-nil, arith, length-append}
+use Rattle.std.proofs.lemmas.List.{map_more, take_all}
 use Rattle.encoding.specs.Clauses.{Literal}
 use Rattle.encoding.specs.Ranges.{each}
 use Rattle.encoding.proofs.Ranges.{each_more}
@@ -25,14 +25,6 @@ module _ {N : ℕ} where
   pub joined-each : (s t u : Listing N) (i : ℕ) (f : ℕ → List (List (Literal ℕ))) → Joined s t (each i f) → Joined t u (f (i + 1)) → Joined s u (each (i + 1) f)
   joined-each s t u i f a b = subst (Joined s u) (sym (each_more i f)) (joined-more s t u (each i f) (f (i + 1)) a b)
 
--- a front with one element more, seen through a function
-pub map_push : {X Y : Type 0} (f : X → Y) (xs : List X) (i : ℕ) (y : X) → i < length xs → map f (take (i + 1) (set xs i y)) ≡ map f (take i xs) ++ f y ∷ []
-map_push f xs i y l = ap (map f) (take_more_set xs i y l) ∙ map-append f (take i xs) (y ∷ [])
-
-pub map_more : {X Y : Type 0} (f : X → Y) (xs : List X) (i : ℕ) (d : X) → i < length xs → map f (take (i + 1) xs) ≡ map f (take i xs) ++ f (get_or xs i d) ∷ []
-map_more f xs i d l = ap (map f) (take_more xs i d l) ∙ map-append f (take i xs) (get_or xs i d ∷ [])
-
-module _ {N : ℕ} where
   -- one more of the clauses in a row
   pub joined-row : (s t u : Listing N) (cs : List Clause) (i : ℕ) (d : Clause) → i < length cs → Joined s t (map lits (take i cs)) → Joined t u (lits (get_or cs i d) ∷ []) → Joined s u (map lits (take (i + 1) cs))
   joined-row s t u cs i d l a b = subst (Joined s u) (sym (map_more lits cs i d l)) (joined-more s t u (map lits (take i cs)) (lits (get_or cs i d) ∷ []) a b)

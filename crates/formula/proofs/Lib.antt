@@ -3,5 +3,6 @@ pub mod Bounds
 pub mod Numbers
 pub mod Equal
 pub mod Ranges
+pub mod Totals
 pub mod Lawful
 pub mod Unrolling

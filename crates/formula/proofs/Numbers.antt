@@ -9,9 +9,9 @@ use Rattle.encoding.specs.Variables.{number, step_size, variables, width}
 use Rattle.encoding.proofs.Emitting.{numbered-each, truth_of-numbers}
 use Rattle.formula.proofs.Ranges.{truth_from}
 
-pub first-variables : (T : Table) → variables T 0 ≡ T.facts + T.actions
+pub first_variables : (T : Table) → variables T 0 ≡ T.facts + T.actions
 unfolding variables
-first-variables T = omega (arith, zero-mul (step_size T))
+first_variables T = omega (arith, zero-mul (step_size T))
 
 -- the truth clauses of fact p, where so many pairs come before its own
 pub truth_is : (T : Table) (p before : ℕ) → 1 ≤ p → before ≡ total (p - 1) (width T) → truth_at T p (variables T 0) before p ≡ truth_from T p

@@ -1,7 +1,6 @@
 -- The clauses of the first step, and of start and goal, by one fact, action or event: what each turn of a loop puts.
 -- Assumes nothing.
-use Rattle.std.proofs.Common.{◌≡◌, ℕ, ◌+◌, ◌-◌, ◌*◌, ◌≤◌, Bool, true, false, cond, List, [], ◌∷◌, sym, refl, ap, ◌∙◌, ap₂, arith}
-use mir.Val.{bool_byte}
+use Rattle.std.proofs.Common.{◌≡◌, ℕ, ◌+◌, ◌-◌, ◌*◌, ◌≤◌, Bool, cond, List, [], ◌∷◌, sym, ap, ◌∙◌, ap₂, arith}
 use Rattle.encoding.specs.Clauses.{Literal, agenda_of, is, isnt, numbered, truth_of}
 use Rattle.encoding.specs.Chains.{turn_at}
 use Rattle.encoding.specs.Ranges.{count, each, only, total}
@@ -19,14 +18,6 @@ count-next i k f l h =
 -- the same, where what is added is 1 if f holds and otherwise 0
 pub counted : (i k m b : ℕ) (f : ℕ → Bool) → 1 ≤ i → k ≡ i → m ≡ count (i - 1) f → b ≡ cond (f i) 1 0 → m + b ≡ count k f
 counted i k m b f l h e d = ap₂ ◌+◌ e d ∙ sym (count-next i k f l h)
-
-pub bit_is : (b : Bool) → bool_byte b ≡ cond b 1 0
-bit_is true = refl
-bit_is false = refl
-
-pub bit-small : (b : Bool) → bool_byte b ≤ 1
-bit-small true = omega arith
-bit-small false = omega arith
 
 pub total-next : (i k : ℕ) (f : ℕ → ℕ) → 1 ≤ i → k ≡ i → total k f ≡ total (i - 1) f + f i
 total-next i k f l h =

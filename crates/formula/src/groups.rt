@@ -7,6 +7,7 @@ ghost use Rattle.formula.specs.Listings.{lits};
 use crate::clauses::{Clause, Literal};
 
 /// An action's start and end, and whether it is open before the step and after it.
+#[tactic(auto, unfolding(encoding::specs::Clauses::agenda_of))]
 pub(crate) fn agenda_of(start: u32, end: u32, before: u32, after: u32) -> [Clause; 6]
     ensures { map lits result ≡ agenda_of start end before after }
 {
@@ -25,6 +26,7 @@ pub(crate) fn agenda_of(start: u32, end: u32, before: u32, after: u32) -> [Claus
 }
 
 /// Both variables have one value.
+#[tactic(auto, unfolding(encoding::specs::Clauses::same))]
 pub(crate) fn same(v: u32, w: u32) -> [Clause; 2]
     ensures { map lits result ≡ same_value v w }
 {
@@ -35,6 +37,7 @@ pub(crate) fn same(v: u32, w: u32) -> [Clause; 2]
 }
 
 /// The last two variables have one value, unless the first holds.
+#[tactic(auto, unfolding(encoding::specs::Clauses::same_unless))]
 pub(crate) fn same_unless(y: u32, v: u32, w: u32) -> [Clause; 2]
     ensures { map lits result ≡ same_unless y v w }
 {

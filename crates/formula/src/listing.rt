@@ -6,7 +6,7 @@ use crate::clauses::Clause;
 
 mod growing;
 
-// An array with a count beside it, and no `Vec`: no heap is used here.
+// An array with a count beside it: no heap is used here, and a vector of fixed size from a further crate would be one more thing to trust.
 #[derive(Drop)]
 pub struct Listing<const N: usize> {
     slots: [Clause; N],

@@ -7,7 +7,7 @@ ghost use Rattle.table.specs.Model.{meant};
 
 use table::Table;
 
-/// Whether the event requires, adds or deletes the fact.
+/// Whether the event requires, adds or deletes the fact. The two stay two parameters: the subject, and what is asked of it.
 #[tactic(auto, unfolding(encoding::specs::Tables::relevant))]
 pub(crate) fn relevant(table: &Table, event: u32, fact: u32) -> bool
     ensures { result ≡ is_relevant (meant table.now) event fact }
@@ -19,11 +19,9 @@ pub(crate) fn relevant(table: &Table, event: u32, fact: u32) -> bool
 pub(crate) fn width(table: &Table, fact: u32) -> u32
     ensures { result ≡ width_of (meant table.now) fact }
 {
-    let mut count = 0;
-    for event in 1..=2 * table.actions() {
-        count += u32::from(relevant(table, event, fact));
-    }
-    count
+    (1..=2 * table.actions())
+        .filter(|&event| relevant(table, event, fact))
+        .count() as u32
 }
 
 /// How many relevant pairs there are: at most one for each of 32 facts and 32 events.
@@ -31,9 +29,5 @@ pub(crate) fn pairs(table: &Table) -> u32
     ensures pairs { result ≡ pairs_of (meant table.now) }
     ensures few { result ≤ 1024 }
 {
-    let mut sum = 0;
-    for fact in 1..=table.facts() {
-        sum += width(table, fact);
-    }
-    sum
+    (1..=table.facts()).map(|fact| width(table, fact)).sum()
 }

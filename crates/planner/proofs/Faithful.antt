@@ -1,6 +1,7 @@
 -- After any history a new draft's table is the one that its granted calls name.
 -- Assumes nothing.
-use Rattle.std.proofs.Common.{◌≡◌, ℕ, Bool, true, false, cond, ◌&&◌, ◌||◌, eqb, List, [], ◌∷◌, is_ok, Some, None, Ok, Err, Option, Result, sym, refl, ap, ◌∙◌, arith}
+use Rattle.std.proofs.Common.{◌≡◌, ℕ, Bool, true, false, cond, ◌&&◌, ◌||◌, eqb, List, [], ◌∷◌, is_ok, Some, None, Ok, Err, Option, Result, sym, refl, ap, ◌∙◌}
+use Rattle.std.proofs.Math.Bool.{or-false}
 use mathlib.Core.Path.{fun_ext}
 use Rattle.table.specs.declared.roles.Role.{Role}
 use Rattle.table.specs.Roles.{number_of, role_of}
@@ -30,7 +31,7 @@ after-granted (Err e) E U V h = refl
 -- a role's number names the role
 note-of : (o : Option Role) (r a p : ℕ) (E : Entries) → o ≡ role_of r → is_ok (answer_by o E a p) ≡ true → written_by o E a p ≡ with_call E (note r a p)
 unfolding with_call
-note-of None r a p E e h = absurd (let z : ◌≡◌ {A = ℕ} 0 1 = cc in omega arith)
+note-of None r a p E e h = cc
 note-of (Some role) r a p E e h =
     ap (λ k. record { facts = E.facts; actions = E.actions; noted = λ (s : Role) b q. (eqb (number_of s) k && (eqb b a && eqb q p)) || E.noted s b q }) (role-number r role (sym e))
 
@@ -38,10 +39,6 @@ after-by : (E : Entries) (c : DraftCall) → after E c ≡ cond (grants E c) (wi
 unfolding with_call
 after-by E (size f n) = after-granted (size_answer E f n) E (with_size E f n) (with_size E f n) (λ h. refl)
 after-by E (note r a p) = after-granted (note_answer E r a p) E (written_by (role_of r) E a p) _ (λ h. note-of (role_of r) r a p E refl h)
-
-or-none : (x : Bool) → (x || false) ≡ x
-or-none true = refl
-or-none false = refl
 
 turned : (x y z : Bool) → ((x || y) || z) ≡ (y || (x || z))
 turned true true z = refl
@@ -53,7 +50,7 @@ over_none : (E : Entries) → E ≡ over E []
 unfolding over last_facts last_actions noted
 over_none E =
     ap (λ (f : Role → ℕ → ℕ → Bool). record { facts = E.facts; actions = E.actions; noted = f })
-    (fun_ext (λ (s : Role). fun_ext (λ b. fun_ext (λ q. sym (or-none (E.noted s b q))))))
+    (fun_ext (λ (s : Role). fun_ext (λ b. fun_ext (λ q. sym (or-false (E.noted s b q))))))
 
 over-more : (E : Entries) (c : DraftCall) (cs : List DraftCall) → over (with_call E c) cs ≡ over E (c ∷ cs)
 unfolding over with_call last_facts last_actions noted

@@ -8,6 +8,7 @@ ghost use Rattle.table.specs.Entries.{blank};
 use crate::jobs::Job;
 use table::{NoteFault, SizeFault, Table};
 
+// No model as one value: see `table::Table`.
 #[derive(Drop)]
 pub struct Draft {
     table: Table,
@@ -22,7 +23,7 @@ impl Draft {
         Draft { table }
     }
 
-    /// Sets the numbers of facts and actions, while there is no note.
+    /// Sets the numbers of facts and actions, while there is no note. Any two numbers may be given.
     pub fn size(&mut self, facts: u32, actions: u32) -> Result<(), SizeFault>
         ensures answer { result ≡ size_answer (in_draft self.old) facts actions }
         ensures after { in_draft self.new ≡ after_size (in_draft self.old) facts actions }
@@ -30,7 +31,8 @@ impl Draft {
         self.table.resize(facts, actions)
     }
 
-    /// Adds a note: what a fact is to an action, by the role's number. Roles 1 and 2 take action 0.
+    /// Adds a note: what a fact is to an action, by the role's number. Roles 1 and 2 take action 0. Any
+    /// numbers may be given, and one that is no role is refused.
     pub fn note(&mut self, role: u32, action: u32, fact: u32) -> Result<(), NoteFault>
         ensures answer { result ≡ note_answer (in_draft self.old) role action fact }
         ensures after { in_draft self.new ≡ after_note (in_draft self.old) role action fact }

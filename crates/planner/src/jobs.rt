@@ -9,6 +9,7 @@ use encoder::EmitFault;
 use store::ClauseStore;
 use table::Table;
 
+// No model as one value: see `table::Table`.
 #[derive(Drop)]
 pub struct Job {
     pub(crate) table: Table,

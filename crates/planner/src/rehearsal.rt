@@ -1,4 +1,5 @@
-//! Plans, rehearsed on a job from the beginning. Neither function changes the job.
+//! Plans, rehearsed on a job from the beginning. Neither function changes the job. Job, n and plan stay apart: the subject, and what is asked
+//! of it.
 
 ghost use Rattle.std.specs.Prelude.{◌≡◌, true, false, MatchOption};
 ghost use Rattle.encoding.specs.Plans.{initially, run};

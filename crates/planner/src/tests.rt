@@ -95,51 +95,35 @@ fn filled(facts: u32, actions: u32, notes: &[(u32, u32, u32)]) -> Job {
     draft.seal()
 }
 
+fn rehearsed(job: &Job, n: u32, plan: &[(u32, u32)]) -> Result<(), Code> {
+    coded(rehearse(job, n, plan))
+}
+
+fn refused(number: u32, first: u128, second: u128, third: u128) -> Result<(), Code> {
+    Err(Code::new(number, first, second, third))
+}
+
 #[test]
 fn plans_of_cell_one(rt: HostRuntime) {
     let job = filled(1, 1, &[(2, 0, 1), (7, 1, 1)]);
-    assert_eq!(rt; coded(rehearse(&job, 1, &[(1, 1), (1, 2)])), Ok(()));
-    assert_eq!(rt; coded(rehearse(&job, 2, &[(1, 1), (2, 2)])), Ok(()));
-    assert_eq!(rt; coded(rehearse(&job, 1, &[])), Err(Code::new(15, 0, 6, 1)));
+    assert_eq!(rt; rehearsed(&job, 1, &[(1, 1), (1, 2)]), Ok(()));
+    assert_eq!(rt; rehearsed(&job, 2, &[(1, 1), (2, 2)]), Ok(()));
+    assert_eq!(rt; rehearsed(&job, 1, &[]), refused(15, 0, 6, 1));
+    assert_eq!(rt; rehearsed(&job, 1, &[(1, 1)]), refused(15, 0, 5, 1));
+    assert_eq!(rt; rehearsed(&job, 1, &[(1, 2)]), refused(14, 1, 3, 1));
+    assert_eq!(rt; rehearsed(&job, 2, &[(1, 1), (2, 1)]), refused(14, 2, 2, 1));
+    assert_eq!(rt; rehearsed(&job, 0, &[(1, 1), (1, 2)]), refused(13, 1, 0, 0));
     assert_eq!(rt;
-        coded(rehearse(&job, 1, &[(1, 1)])),
-        Err(Code::new(15, 0, 5, 1))
+        rehearsed(&job, 1, &[(1, 1), (1, 2), (2, 1)]),
+        refused(13, 3, 0, 0)
     );
+    assert_eq!(rt; rehearsed(&job, 1, &[(1, 1), (1, 1)]), refused(13, 2, 0, 0));
+    assert_eq!(rt; rehearsed(&job, 1, &[(1, 2), (1, 1)]), refused(13, 2, 0, 0));
+    assert_eq!(rt; rehearsed(&job, 1, &[(1, 2), (1, 3)]), refused(13, 2, 0, 0));
+    assert_eq!(rt; rehearsed(&job, u32::MAX, &[(0, 1)]), refused(13, 1, 0, 0));
     assert_eq!(rt;
-        coded(rehearse(&job, 1, &[(1, 2)])),
-        Err(Code::new(14, 1, 3, 1))
-    );
-    assert_eq!(rt;
-        coded(rehearse(&job, 2, &[(1, 1), (2, 1)])),
-        Err(Code::new(14, 2, 2, 1))
-    );
-    assert_eq!(rt;
-        coded(rehearse(&job, 0, &[(1, 1), (1, 2)])),
-        Err(Code::new(13, 1, 0, 0))
-    );
-    assert_eq!(rt;
-        coded(rehearse(&job, 1, &[(1, 1), (1, 2), (2, 1)])),
-        Err(Code::new(13, 3, 0, 0))
-    );
-    assert_eq!(rt;
-        coded(rehearse(&job, 1, &[(1, 1), (1, 1)])),
-        Err(Code::new(13, 2, 0, 0))
-    );
-    assert_eq!(rt;
-        coded(rehearse(&job, 1, &[(1, 2), (1, 1)])),
-        Err(Code::new(13, 2, 0, 0))
-    );
-    assert_eq!(rt;
-        coded(rehearse(&job, 1, &[(1, 2), (1, 3)])),
-        Err(Code::new(13, 2, 0, 0))
-    );
-    assert_eq!(rt;
-        coded(rehearse(&job, u32::MAX, &[(0, 1)])),
-        Err(Code::new(13, 1, 0, 0))
-    );
-    assert_eq!(rt;
-        coded(rehearse(&job, u32::MAX, &[(1, 1), (u32::MAX, u32::MAX)])),
-        Err(Code::new(13, 2, 0, 0))
+        rehearsed(&job, u32::MAX, &[(1, 1), (u32::MAX, u32::MAX)]),
+        refused(13, 2, 0, 0)
     );
 }
 
@@ -151,25 +135,16 @@ fn plans_of_cell_two(rt: HostRuntime) {
         &[(4, 1, 1), (8, 1, 1), (9, 2, 1), (7, 2, 2), (2, 0, 2)],
     );
     assert_eq!(rt;
-        coded(rehearse(&job, 2, &[(1, 1), (1, 3), (1, 4), (2, 2)])),
+        rehearsed(&job, 2, &[(1, 1), (1, 3), (1, 4), (2, 2)]),
         Ok(())
     );
     assert_eq!(rt;
-        coded(rehearse(&job, 2, &[(1, 1), (1, 3), (2, 2), (2, 4)])),
-        Err(Code::new(14, 3, 4, 2))
+        rehearsed(&job, 2, &[(1, 1), (1, 3), (2, 2), (2, 4)]),
+        refused(14, 3, 4, 2)
     );
-    assert_eq!(rt;
-        coded(rehearse(&job, 2, &[(1, 3)])),
-        Err(Code::new(14, 1, 1, 1))
-    );
-    assert_eq!(rt;
-        coded(rehearse(&job, 2, &[(1, 1), (1, 3)])),
-        Err(Code::new(15, 0, 5, 1))
-    );
-    assert_eq!(rt;
-        coded(rehearse(&job, 2, &[(1, 1), (1, 2)])),
-        Err(Code::new(15, 0, 6, 2))
-    );
+    assert_eq!(rt; rehearsed(&job, 2, &[(1, 3)]), refused(14, 1, 1, 1));
+    assert_eq!(rt; rehearsed(&job, 2, &[(1, 1), (1, 3)]), refused(15, 0, 5, 1));
+    assert_eq!(rt; rehearsed(&job, 2, &[(1, 1), (1, 2)]), refused(15, 0, 6, 2));
 }
 
 #[test]

@@ -4,7 +4,8 @@ ghost use Rattle.std.specs.Prelude.{◌≡◌};
 ghost use Rattle.refusal.specs.Codes.{code_of, obstacle_of, says, unmet_of};
 
 /// A refusal's number and its three figures. A figure that the refusal does not name is 0.
-/// Figures have 128 bits, so that one more than the largest size of a tray is one, too.
+/// Figures have 128 bits, so that one more than the largest size of a tray is one, too. Numbers and no enum: a refusal is printed as a number
+/// and three figures.
 #[derive(Clone, Copy, PartialEq, Eq, Debug)]
 pub struct Code {
     pub number: u32,
@@ -61,7 +62,8 @@ pub enum Refusal {
     PriceExceedsFree,
     /// the lowest variable without a value
     VariableWithoutValue { variable: u32 },
-    /// the first false clause: its place in the clause list, its family and its step
+    /// the first false clause: its place in the clause list, its family and its step; the family by its number, since its enum stands in a
+    /// crate above
     FalseClause { clause: u32, family: u32, step: u32 },
     /// how many places the tray would need
     TrayTooShort { needed: u128 },
@@ -74,7 +76,7 @@ pub enum Refusal {
     ClauseOutOfLimits,
     MalformedText { line: usize, column: usize },
     NoModel,
-    /// the number of the draft's own refusal
+    /// the number of the draft's own refusal, as the line prints it
     LineRefused { line: usize, number: u32 },
     InputTooLong,
 }
@@ -127,10 +129,10 @@ impl Refusal {
                 step,
             } => Code::new(11, u128::from(clause), u128::from(family), u128::from(step)),
             Refusal::TrayTooShort { needed } => Code::new(12, needed, 0, 0),
-            Refusal::PairMisplaced { place } => Code::new(13, place as u128, 0, 0),
+            Refusal::PairMisplaced { place } => Code::new(13, wide(place), 0, 0),
             Refusal::EventDoesNotRun { place, obstacle } => {
                 let (cause, item) = obstacle.cause();
-                Code::new(14, place as u128, u128::from(cause), u128::from(item))
+                Code::new(14, wide(place), u128::from(cause), u128::from(item))
             }
             Refusal::WrongEnding { unmet } => {
                 let (cause, item) = unmet.cause();
@@ -138,20 +140,17 @@ impl Refusal {
             }
             Refusal::MapTooShort { variables } => Code::new(16, u128::from(variables), 0, 0),
             Refusal::ClauseOutOfLimits => Code::new(17, 0, 0, 0),
-            Refusal::MalformedText { line, column } => Code::new(
-                18,
-                line as u128,
-                column as u128,
-                0,
-            ),
+            Refusal::MalformedText { line, column } => Code::new(18, wide(line), wide(column), 0),
             Refusal::NoModel => Code::new(19, 0, 0, 0),
-            Refusal::LineRefused { line, number } => Code::new(
-                20,
-                line as u128,
-                0,
-                u128::from(number),
-            ),
+            Refusal::LineRefused { line, number } => Code::new(20, wide(line), 0, number.into()),
             Refusal::InputTooLong => Code::new(21, 0, 0, 0),
         }
     }
+}
+
+// A place as a figure; std has no `From` for it.
+fn wide(place: usize) -> u128
+    ensures { result ≡ place }
+{
+    place as u128
 }

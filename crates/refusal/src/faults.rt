@@ -1,4 +1,5 @@
-//! The trait by which the fault of a call tells which refusal it is.
+//! The trait by which the fault of a call tells which refusal it is. A trait and not `From` alone: what a fault means is a function here,
+//! so the number and figures of every fault are promised by equality.
 
 ghost use Rattle.std.specs.Prelude.{◌≡◌};
 ghost use Rattle.refusal.specs.Codes.{code_of};

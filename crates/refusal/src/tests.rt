@@ -2,6 +2,16 @@
 
 use super::{Code, Obstacle, Refusal, Unmet};
 
+/// Made by hand, and not by what is tested.
+fn code(number: u32, first: u128, second: u128, third: u128) -> Code {
+    Code {
+        number,
+        first,
+        second,
+        third,
+    }
+}
+
 #[test]
 fn refusals_without_figures(rt: HostRuntime) {
     let table = [
@@ -19,7 +29,7 @@ fn refusals_without_figures(rt: HostRuntime) {
         (Refusal::InputTooLong, 21),
     ];
     for (refusal, number) in table {
-        assert_eq!(rt; refusal.code(), Code::new(number, 0, 0, 0));
+        assert_eq!(rt; refusal.code(), code(number, 0, 0, 0));
     }
 }
 
@@ -28,7 +38,7 @@ fn refusals_with_figures(rt: HostRuntime) {
     let table = [
         (
             Refusal::VariableWithoutValue { variable: 7 },
-            Code::new(10, 7, 0, 0),
+            code(10, 7, 0, 0),
         ),
         (
             Refusal::FalseClause {
@@ -36,64 +46,61 @@ fn refusals_with_figures(rt: HostRuntime) {
                 family: 5,
                 step: 2,
             },
-            Code::new(11, 63, 5, 2),
+            code(11, 63, 5, 2),
         ),
         (
             Refusal::TrayTooShort { needed: u128::MAX },
-            Code::new(12, u128::MAX, 0, 0),
+            code(12, u128::MAX, 0, 0),
         ),
-        (Refusal::PairMisplaced { place: 4 }, Code::new(13, 4, 0, 0)),
+        (Refusal::PairMisplaced { place: 4 }, code(13, 4, 0, 0)),
         (
             Refusal::EventDoesNotRun {
                 place: 3,
                 obstacle: Obstacle::RequiredFactFalse(9),
             },
-            Code::new(14, 3, 1, 9),
+            code(14, 3, 1, 9),
         ),
         (
             Refusal::EventDoesNotRun {
                 place: 3,
                 obstacle: Obstacle::ActionAlreadyOpen(8),
             },
-            Code::new(14, 3, 2, 8),
+            code(14, 3, 2, 8),
         ),
         (
             Refusal::EventDoesNotRun {
                 place: 3,
                 obstacle: Obstacle::ActionNotOpen(7),
             },
-            Code::new(14, 3, 3, 7),
+            code(14, 3, 3, 7),
         ),
         (
             Refusal::EventDoesNotRun {
                 place: 3,
                 obstacle: Obstacle::HeldFactDeleted(2),
             },
-            Code::new(14, 3, 4, 2),
+            code(14, 3, 4, 2),
         ),
         (
             Refusal::WrongEnding {
                 unmet: Unmet::ActionLeftOpen(2),
             },
-            Code::new(15, 0, 5, 2),
+            code(15, 0, 5, 2),
         ),
         (
             Refusal::WrongEnding {
                 unmet: Unmet::GoalFactFalse(1),
             },
-            Code::new(15, 0, 6, 1),
+            code(15, 0, 6, 1),
         ),
-        (
-            Refusal::MapTooShort { variables: 28 },
-            Code::new(16, 28, 0, 0),
-        ),
+        (Refusal::MapTooShort { variables: 28 }, code(16, 28, 0, 0)),
         (
             Refusal::MalformedText { line: 2, column: 5 },
-            Code::new(18, 2, 5, 0),
+            code(18, 2, 5, 0),
         ),
         (
             Refusal::LineRefused { line: 3, number: 7 },
-            Code::new(20, 3, 0, 7),
+            code(20, 3, 0, 7),
         ),
     ];
     for (refusal, expected) in table {

@@ -24,6 +24,7 @@ pub fn print_output<W: Write>(to: &mut W, output: Result<Vec<u8>, Stop>) -> Resu
     ensures ends { Ends output result }
     ensures written { Writes output result (W.contents to.old) (W.contents to.new) }
 {
+    // taken apart: a refusal's line is written before the error is handed on
     match output {
         Ok(text) => {
             to.write_all(text.as_slice())?;

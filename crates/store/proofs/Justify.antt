@@ -1,9 +1,10 @@
 -- A column written from its last byte on is the number right-justified.
 use Rattle.std.proofs.lemmas.Bool.Decides.{nat_tests}
-use Rattle.std.proofs.Common.{◌≡◌, ℕ, zero, suc, ◌+◌, ◌-◌, ◌/◌, ◌%◌, ◌^◌, ◌<◌, ◌≤◌, Bool, true, false, cond, ◌&&◌, ltb, List, [], ◌∷◌, ◌++◌, length, drop, set, replicate, sym, refl, ap, ◌∙◌, ⊎_elim, append_assoc, arith}
+use Rattle.std.proofs.Common.{◌≡◌, ℕ, zero, suc, ◌+◌, ◌-◌, ◌/◌, ◌%◌, ◌^◌, ◌<◌, ◌≤◌, Bool, true, false, cond, ◌&&◌, ltb, List, [], ◌∷◌, ◌++◌, length, replicate, sym, refl, ap, ◌∙◌, ⊎_elim, append_assoc, arith}
 use Rattle.std.proofs.lemmas.Bool.{cases_lt}
-use Rattle.std.proofs.lemmas.List.{length_push, drop-set, drop_all, replicate_more}
+use Rattle.std.proofs.lemmas.List.{length_push, replicate_more}
 use Rattle.std.proofs.lemmas.Fmt.{decimal_digit, decimal_step, decimal_nonempty}
+use Rattle.std.proofs.Math.Bool.{and-true}
 use Rattle.store.specs.Rendering.{justified}
 use Rattle.store.specs.Spelling.{spelled, filled}
 
@@ -11,10 +12,6 @@ use Rattle.store.specs.Spelling.{spelled, filled}
 abbrev columns : ℕ → ℕ → Bool → List ℕ
 columns zero n minus = []
 columns (suc w) n minus = filled w (n / 10) minus ++ (48 + n % 10) ∷ []
-
-and-true : (b : Bool) → b && true ≡ b
-and-true true = refl
-and-true false = refl
 
 filled-columns : (w n : ℕ) (minus : Bool) → 0 < n → filled w n minus ≡ columns w n minus
 filled-columns zero n minus h = refl
@@ -34,9 +31,6 @@ spelled_step n false h l = decimal_step n h l
 spelled-some : (n : ℕ) (minus : Bool) → n < 2 ^ 64 → 0 < length (spelled n minus)
 spelled-some n true l = omega arith
 spelled-some n false l = decimal_nonempty n l
-
-pub spelled-length : (n : ℕ) (minus : Bool) (w : ℕ) → n < 2 ^ 64 → length (spelled n minus) ≤ w → 1 ≤ w
-spelled-length n minus w l h = omega (arith, spelled-some n minus l)
 
 one-digit : (w n : ℕ) (minus : Bool) → n < 10 → length (spelled n minus) ≤ suc w → columns (suc w) n minus ≡ justified (suc w) (spelled n minus)
 one-digit w n minus l h =

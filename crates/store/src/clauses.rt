@@ -8,7 +8,7 @@ ghost use Rattle.store.specs.Growth.{Growth};
 
 use refusal::{Fault, Refusal};
 
-/// The largest variable that a literal may name.
+/// The largest variable that a literal may name. The crate `answer` has the same limit: neither knows the other.
 pub const GREATEST_VARIABLE: u32 = 99_999;
 
 /// How many literals a clause may have.
@@ -38,7 +38,8 @@ impl Fault for PutFault {
 /// units. Each kind fixes a price of 1 to 64 units for a clause of one to four literals.
 pub trait ClauseStore {
     /// The prices of clauses of one to four literals. Code over every kind reads them by `price_list`, which returns these and is tied
-    /// to `prices`: the constants of a type with a lifetime can have no clauses yet.
+    /// to `prices`. A ghost twin of each constant would do without it: tried, but the check can't tie the two where the kind's type has
+    /// a lifetime.
     const PRICE_1: usize;
 
     const PRICE_2: usize;
@@ -78,8 +79,7 @@ pub trait ClauseStore {
         }
     }
 
-    /// Puts a clause at the end, for its price. Refused, the store stays as it was. Each kind has its own tests in front: written
-    /// here once, they would call a function of the trait that asks something of its caller, and none that is open may.
+    /// Puts a clause at the end, for its price. Refused, the store stays as it was.
     fn put(&mut self, clause: &[i32]) -> Result<(), PutFault>
         ensures puts { Put held units prices self.old self.new clause.now result }
         ensures grows { grew self.old self.new };

@@ -1,15 +1,19 @@
 //! Numbers and clause lines, written into bytes of just their length.
 
 ghost use Rattle.std.specs.Prelude.{◌≡◌, ◌+◌, ◌*◌, ◌^◌, ◌<◌, ◌≤◌, true, length, pos};
-ghost use Rattle.store.specs.Clauses.{is_literal, all_literals};
+ghost use Rattle.store.specs.Clauses.{is_literal};
 ghost use Rattle.store.specs.Rendering.{justified, field as column_of, line_of, width};
 ghost use Rattle.store.specs.Spelling.{spelled, column_byte, filled};
+
+use super::lawful::Lawful;
 
 /// The width of a column.
 pub const WIDTH: usize = 7;
 
 /// How many bytes end a clause's line: a blank, a 0 and a line feed.
 pub const LINE_END: usize = 3;
+
+// Digits by hand: the library prints with a width onto the heap, or to a writer of which no contract says the bytes.
 
 /// A byte of a column: a digit of what is left of the number, or the sign before the digits, or a blank.
 fn column_byte(rest: usize, minus: bool) -> u8
@@ -64,16 +68,15 @@ pub fn write_count(column: &mut [u8], n: usize)
 
 /// Writes the clause's line.
 #[tactic(auto, using(crate::proofs::Lines::line_ends, crate::proofs::Lines::literal_at, crate::proofs::Lines::length_literal))]
-pub fn write_line(line: &mut [u8], clause: &[i32])
-    requires whole { length line.old ≡ width * length clause.now + 3 }
-    requires lawful { all_literals clause.now ≡ true }
-    ensures { line.new ≡ line_of width clause.now }
+pub fn write_line(line: &mut [u8], clause: Lawful)
+    requires { length line.old ≡ width * length clause.literals.now + 3 }
+    ensures { line.new ≡ line_of width clause.entry.literals.now }
 {
     // By place: what `chunks_exact_mut` lent is not known any more once its loop is over (tried).
-    for (i, z) in clause.iter().enumerate() {
+    for (i, z) in clause.literals.iter().enumerate() {
         let start = WIDTH * i;
         write_literal(&mut line[start..start + WIDTH], *z);
     }
-    let end = WIDTH * clause.len();
+    let end = WIDTH * clause.literals.len();
     line[end..end + LINE_END].copy_from_slice(b" 0\n");
 }

@@ -1,10 +1,11 @@
 //! The header of a text: what it says, and its bytes.
 
 ghost use Rattle.std.specs.Prelude.{◌≡◌, ◌+◌, ◌^◌, ◌<◌, ◌≤◌, true, max, length, fold, unsigned_abs};
-ghost use Rattle.store.specs.Clauses.{greatest_variable, all_literals};
+ghost use Rattle.store.specs.Clauses.{greatest_variable};
 ghost use Rattle.store.specs.Rendering.{header_of, largest_of, width, header_length};
 
 use super::columns::{WIDTH, write_count};
+use super::lawful::Lawful;
 
 /// The header's length: `p cnf`, two columns and a line feed.
 pub const HEADER: usize = 2 * WIDTH + 6;
@@ -30,14 +31,13 @@ fn largest_of(clause: &[i32]) -> usize
 impl Header {
     /// The header with one clause more.
     #[tactic(auto, using(crate::proofs::Texts::largest_fold, crate::proofs::Texts::largest_low))]
-    pub fn joined(self, clause: &[i32]) -> Header
-        requires lawful { all_literals clause.now ≡ true }
-        requires room { self.count + 1 < 10 ^ width }
-        ensures largest { result.largest ≡ max self.largest (largest_of clause.now) }
+    pub fn joined(self, clause: Lawful) -> Header
+        requires { self.count + 1 < 10 ^ width }
+        ensures largest { result.largest ≡ max self.largest (largest_of clause.entry.literals.now) }
         ensures count { result.count ≡ self.count + 1 }
     {
         Header {
-            largest: self.largest.max(largest_of(clause)),
+            largest: self.largest.max(largest_of(clause.literals)),
             count: self.count + 1,
         }
     }

@@ -8,6 +8,7 @@
 mod clauses;
 mod columns;
 mod header;
+mod lawful;
 mod numbers;
 mod text;
 

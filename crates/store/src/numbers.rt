@@ -1,13 +1,15 @@
 //! The number store: clauses in lent signed numbers, each as its literals and a 0.
 
 ghost use Rattle.std.specs.Prelude.{◌≡◌, true, ◌+◌, ◌-◌, ◌≤◌, [], ◌∷◌, ◌++◌, length, take, drop};
-ghost use Rattle.store.specs.Clauses.{is_clause, cost, Joined};
+ghost use Rattle.store.specs.Clauses.{cost, Joined};
 ghost use Rattle.store.specs.Growth.{Grown, grown-growth};
 ghost use Rattle.store.specs.Numbers.{ended, numbers_of, clauses_in, number_prices, number_priced};
 
-use super::clauses::{ClauseStore, PutFault, is_clause};
+use super::clauses::{ClauseStore, PutFault};
+use super::lawful::Lawful;
 
-/// The first `used` of the lent numbers are the clauses. The others are not the store's to change.
+/// The first `used` of the lent numbers are the clauses. The others are not the store's to change. It is lent memory
+/// and a used length, as no heap is used here. No model stands for it as one value: whose memory it is stays in every contract.
 #[derive(Drop)]
 pub struct NumberStore<'a> {
     numbers: &'a mut [i32],
@@ -45,16 +47,15 @@ impl<'a> NumberStore<'a> {
     }
 
     /// The clause joins the end.
-    fn join(&mut self, clause: &[i32])
-        requires lawful { is_clause clause.now ≡ true }
-        requires room { cost number_prices (length clause.now) ≤ length self.old.numbers.now - self.old.used }
-        ensures joins { Joined (cost number_prices (length clause.now))
+    fn join(&mut self, clause: Lawful)
+        requires { cost number_prices (length clause.literals.now) ≤ length self.old.numbers.now - self.old.used }
+        ensures joins { Joined (cost number_prices (length clause.entry.literals.now))
             (clauses_in (take self.old.used self.old.numbers.now)) (clauses_in (take self.new.used self.new.numbers.now))
-            (length self.old.numbers.now - self.old.used) (length self.new.numbers.now - self.new.used) clause.now }
+            (length self.old.numbers.now - self.old.used) (length self.new.numbers.now - self.new.used) clause.entry.literals.now }
         ensures grows { Grown (λ s. s.numbers.ghost_name) (λ s. s.numbers.now) (λ s. s.used) self.old self.new }
     {
-        write_clause(self.numbers, self.used, clause);
-        self.used += clause.len() + 1;
+        write_clause(self.numbers, self.used, clause.literals);
+        self.used += clause.literals.len() + 1;
         self.count += 1;
     }
 
@@ -94,11 +95,11 @@ impl ClauseStore for NumberStore<'_> {
         [Self::PRICE_1, Self::PRICE_2, Self::PRICE_3, Self::PRICE_4]
     }
 
+    // Each kind makes both tests before it joins the clause: written once in the trait, they would call a function that asks something
+    // of its caller, and none that is open may.
     fn put(&mut self, clause: &[i32]) -> Result<(), PutFault> {
-        if !is_clause(clause) {
-            return Err(PutFault::ClauseOutOfLimits);
-        }
-        let price = Self::price(clause.len());
+        let clause = Lawful::new(clause).ok_or(PutFault::ClauseOutOfLimits)?;
+        let price = Self::price(clause.literals.len());
         if self.free() < price {
             return Err(PutFault::PriceExceedsFree);
         }

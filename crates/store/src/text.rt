@@ -1,21 +1,23 @@
 //! The text store: clauses in lent bytes, as a text in the DIMACS CNF form.
 
 ghost use Rattle.std.specs.Prelude.{◌≡◌, ◌+◌, ◌-◌, ◌*◌, ◌≤◌, true, min, cond, [], ◌∷◌, length, take, nat_lt};
-ghost use Rattle.store.specs.Clauses.{all_literals, is_clause, cost, Joined};
+ghost use Rattle.store.specs.Clauses.{cost, Joined};
 ghost use Rattle.store.specs.Growth.{Grown, grown-growth, over};
 ghost use Rattle.store.specs.Rendering.{width, header_length, longest_text, largest_in, shown_in, room_in, text_prices, text_priced};
 ghost use Rattle.store.specs.ReadBack.{clauses_of};
 ghost use Rattle.store.specs.Rewriting.{rewritten};
 
-use super::clauses::{ClauseStore, PutFault, is_clause};
+use super::clauses::{ClauseStore, PutFault};
 use super::columns::{LINE_END, WIDTH, write_line};
 use super::header::{HEADER, Header};
+use super::lawful::Lawful;
 
 /// How many of the lent bytes count: those beyond are neither used nor free.
 pub const LONGEST_TEXT: usize = 9_999_999;
 
 /// The first `used` of the lent bytes are the text: the header, true at any time, and a line for each clause. The others are not
-/// the store's to change. Where the header has no room, nothing is used.
+/// the store's to change. Where the header has no room, nothing is used. It is lent memory and a used length, as no heap is used here.
+/// No model stands for it as one value: whose memory it is stays in every contract.
 #[derive(Drop)]
 pub struct TextStore<'a> {
     bytes: &'a mut [u8],
@@ -29,13 +31,12 @@ pub struct TextStore<'a> {
 
 /// Writes the clause's line at `start`, and the header anew. The other bytes stay.
 #[tactic(auto, using(crate::proofs::Lines::line_and_header))]
-fn write_clause(bytes: &mut [u8], start: usize, clause: &[i32], header: Header)
+fn write_clause(bytes: &mut [u8], start: usize, clause: Lawful, header: Header)
     requires behind { header_length ≤ start }
-    requires room { start + (width * length clause.now + 3) ≤ length bytes.old }
-    requires lawful { all_literals clause.now ≡ true }
-    ensures { bytes.new ≡ rewritten bytes.old start clause.now header.largest header.count }
+    requires room { start + (width * length clause.literals.now + 3) ≤ length bytes.old }
+    ensures { bytes.new ≡ rewritten bytes.old start clause.entry.literals.now header.largest header.count }
 {
-    let end = start + WIDTH * clause.len() + LINE_END;
+    let end = start + WIDTH * clause.literals.len() + LINE_END;
     write_line(&mut bytes[start..end], clause);
     header.write(&mut bytes[..HEADER]);
 }
@@ -69,17 +70,16 @@ impl<'a> TextStore<'a> {
     }
 
     /// The clause joins the end, and the header is written anew.
-    fn join(&mut self, clause: &[i32])
-        requires lawful { is_clause clause.now ≡ true }
-        requires room { cost text_prices (length clause.now) ≤ room_in (length self.old.bytes.now) self.old.used }
-        ensures joins { Joined (cost text_prices (length clause.now))
+    fn join(&mut self, clause: Lawful)
+        requires { cost text_prices (length clause.literals.now) ≤ room_in (length self.old.bytes.now) self.old.used }
+        ensures joins { Joined (cost text_prices (length clause.entry.literals.now))
             (clauses_of (take self.old.used self.old.bytes.now)) (clauses_of (take self.new.used self.new.bytes.now))
-            (room_in (length self.old.bytes.now) self.old.used) (room_in (length self.new.bytes.now) self.new.used) clause.now }
+            (room_in (length self.old.bytes.now) self.old.used) (room_in (length self.new.bytes.now) self.new.used) clause.entry.literals.now }
         ensures grows { Grown (λ s. s.bytes.ghost_name) (λ s. s.bytes.now) (λ s. s.used) self.old self.new }
     {
         let header = self.header.joined(clause);
         write_clause(self.bytes, self.used, clause, header);
-        self.used += WIDTH * clause.len() + LINE_END;
+        self.used += WIDTH * clause.literals.len() + LINE_END;
         self.header = header;
     }
 
@@ -119,11 +119,11 @@ impl ClauseStore for TextStore<'_> {
         [Self::PRICE_1, Self::PRICE_2, Self::PRICE_3, Self::PRICE_4]
     }
 
+    // Each kind makes both tests before it joins the clause: written once in the trait, they would call a function that asks something
+    // of its caller, and none that is open may.
     fn put(&mut self, clause: &[i32]) -> Result<(), PutFault> {
-        if !is_clause(clause) {
-            return Err(PutFault::ClauseOutOfLimits);
-        }
-        let price = Self::price(clause.len());
+        let clause = Lawful::new(clause).ok_or(PutFault::ClauseOutOfLimits)?;
+        let price = Self::price(clause.literals.len());
         if self.free() < price {
             return Err(PutFault::PriceExceedsFree);
         }

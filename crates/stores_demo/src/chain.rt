@@ -20,13 +20,15 @@ pub fn put_chain<S: ClauseStore>(store: &mut S, n: u32) -> Result<usize, PutFaul
         return Err(PutFault::PriceExceedsFree);
     }
     store.put(&[1])?;
-    // From 0: over `1..=n` the body is no shorter, since the number is cast there, too.
+    // From 0: over `1..=n` the loop has two ways out, and the proof of one of them stayed open.
     for k in 0..n {
         let variable = k as i32 + 1;
         store.put(&[-variable, variable + 1])?;
     }
     Ok(n as usize + 1)
 }
+
+// This and `chain_numbers` are two functions since each contract names its own memory and how that is read.
 
 /// Puts the chain into a text store over the bytes, whatever they are, and returns the length of the text, which they then begin
 /// with. The bytes beyond the text are as they were.

@@ -7,6 +7,7 @@ ghost use Rattle.table.specs.Memory.{marked};
 use crate::limits::FACT_PLACES;
 use std::array;
 
+// A fixed array, as no heap is used here, and no model: what a set says is a function, and the value of a model has to be data.
 #[derive(Clone, Copy)]
 pub(crate) struct Marks<const N: usize> {
     marks: [bool; N],
@@ -30,7 +31,7 @@ impl<const N: usize> Marks<N> {
     pub(crate) fn put(&mut self, number: u32, present: bool)
         ensures { (i : ℕ) → marked self.new i ≡ (if nat_eq i number && nat_lt number N then present else marked self.old i) }
     {
-        // tried with get_mut: where it gives None, that there are N places stays open
+        // By index: where `get_mut` gives None, that there are N places stays open (tried).
         let place = number as usize;
         if place < N {
             self.marks[place] = present;

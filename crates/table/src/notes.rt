@@ -6,6 +6,7 @@ ghost use Rattle.table.specs.Memory.{marked, noted, facts_of};
 use crate::limits::{ACTION_PLACES, FACT_PLACES};
 use crate::marks::Marks;
 
+// A fixed array, as no heap is used here.
 #[derive(Clone, Copy)]
 pub(crate) struct Notes {
     of: [Marks<FACT_PLACES>; ACTION_PLACES],
@@ -34,14 +35,16 @@ impl Notes {
     pub(crate) fn has(&self, action: u32, fact: u32) -> bool
         ensures { result ≡ noted self.now action fact }
     {
-        self.facts(action).has(fact)
+        self.of
+            .get(action as usize)
+            .is_some_and(|facts| facts.has(fact))
     }
 
     /// Adds a note. One that there is no place for changes nothing.
     pub(crate) fn add(&mut self, action: u32, fact: u32)
         ensures { (a p : ℕ) → noted self.new a p ≡ ((a == action && (nat_lt action 17 && (p == fact && nat_lt fact 33))) || noted self.old a p) }
     {
-        // tried with get_mut: where it gives None, that there are all these places stays open
+        // By index: where `get_mut` gives None, that there are all these places stays open (tried).
         let place = action as usize;
         if place < ACTION_PLACES {
             self.of[place].put(fact, true);

@@ -13,6 +13,8 @@ mod sizes;
 use crate::limits::ROLE_PLACES;
 use crate::notes::Notes;
 
+// No model stands for a table as one value: what it says is which notes there are, a function, and the value of a model has to be data.
+// Its facts and actions are two numbers, as at the call that sets them.
 #[derive(Drop)]
 pub struct Table {
     facts: u32,

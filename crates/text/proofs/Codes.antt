@@ -50,13 +50,13 @@ lines-meet : (t w : Tag) (a b r s : List ℕ) → a ≡ tag_text t ++ r → b �
 lines-meet t w a b r s p q e f = p ∙ ap (λ x. tag_text x ++ r) e ∙ ap (λ x. tag_text w ++ x) f ∙ sym q
 
 sizes-note : (r : Role) → SizesTag ≡ NoteTag r → ⊥
-sizes-note r e = let z : ◌≡◌ {A = ℕ} 0 1 = cc in omega arith
+sizes-note r e = cc
 
 sizes-close : SizesTag ≡ Close → ⊥
-sizes-close e = let z : ◌≡◌ {A = ℕ} 0 1 = cc in omega arith
+sizes-close e = cc
 
 note-close : (r : Role) → NoteTag r ≡ Close → ⊥
-note-close r e = let z : ◌≡◌ {A = ℕ} 0 1 = cc in omega arith
+note-close r e = cc
 
 one-role : (r k : Role) → NoteTag r ≡ NoteTag k → k ≡ r
 one-role r k e = cc

@@ -141,7 +141,7 @@ some-once : (x y : Tag) → Some x ≡ Some y → x ≡ y
 some-once x y e = cc
 
 never : (t : Tag) → None ≡ Some t → ⊥
-never t e = let z : ◌≡◌ {A = ℕ} 0 1 = cc in omega arith
+never t e = cc
 
 both-letters : (f a b : ℕ) (s : List ℕ) (o : Option Tag) → opens a f ≡ true → tag_of a b ≡ o → TagLaw f (a ∷ b ∷ s) (if_allowed f o)
 both-letters f a b s None h e = stuck-second f a b s h (λ t g i. never t (sym e ∙ i))

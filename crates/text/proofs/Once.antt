@@ -45,10 +45,10 @@ some-line : (l m : Line) → Some l ≡ Some m → l ≡ m
 some-line l m e = cc
 
 no_line : (l : Line) → None ≡ Some l → ⊥
-no_line l e = let z : ◌≡◌ {A = ℕ} 0 1 = cc in omega arith
+no_line l e = cc
 
 not-both : (e : LineFault) (r : Result (Unit {0}) LineFault) → r ≡ Ok tt → r ≡ Err e → ⊥
-not-both e r p q = let z : ◌≡◌ {A = ℕ} 0 1 = cc in omega arith
+not-both e r p q = cc
 
 one-fault : (d e : LineFault) (r : Result (Unit {0}) LineFault) → r ≡ Err d → r ≡ Err e → d ≡ e
 one-fault d e r p q = cc

@@ -31,9 +31,6 @@ refused-right A B x p q e code r h =
     let P : List ℕ → Type 0 = λ s. Stuck (Then A B) s (length r.0 + h.0) in
     (length r.0 + h.0, omega (arith, r.2, h.1), subst P (sym r.1) (stuck-right A B x r.0 q.left.now h.0 code r.3 h.2))
 
-pub read_same : (L M : List ℕ → Type 0) (p q : Reader) → ((t : List ℕ) → L t → M t) → Read L p q → Read M p q
-read_same L M p q f r = (r.0, r.1, r.2, f r.0 r.3)
-
 -- A number before a row
 
 row-to : (k : ℕ) (s : List ℕ) → Then Number (λ n t. Any (RowOf k) t) s → Any (RowOf (suc k)) s
@@ -136,21 +133,13 @@ pub some-note : (b : Bool) → Viable (Any (NoteRest b)) []
 some-note true = let r = some-row 1 in (r.0, bare-note r.1.0 r.0 r.1.1.0 r.1.1.1)
 some-note false = let r = some-row 2 in (r.0, full-note r.1.0 r.0 r.1.1.0 r.1.1.1)
 
-pub bare-read : (b : Bool) (n : ℕ) (p q : Reader) → not b ≡ false → Read (Row (n ∷ [])) p q → Read (NoteRest b (0, n)) p q
-bare-read true n p q e r = read_same (Row (n ∷ [])) (NoteRest true (0, n)) p q (one-note n) r
-bare-read false n p q e r = absurd (let z : ◌≡◌ {A = ℕ} 0 1 = cc in omega arith)
-
 pub bare-refused : (b : Bool) (p : Reader) (x : ℕ) → not b ≡ false → Refused (Any (RowOf 1)) p x → Refused (Any (NoteRest b)) p x
 bare-refused true p x e r = refused-same (Any (RowOf 1)) (Any (NoteRest true)) p x (λ t h. bare-note h.0 t h.1.0 h.1.1) (λ t h. (h.0.1 ∷ [], (refl, note-one h.0 t h.1))) r
-bare-refused false p x e r = absurd (let z : ◌≡◌ {A = ℕ} 0 1 = cc in omega arith)
-
-pub full-read : (b : Bool) (a n : ℕ) (p q : Reader) → not b ≡ true → Read (Row (a ∷ n ∷ [])) p q → Read (NoteRest b (a, n)) p q
-full-read false a n p q e r = read_same (Row (a ∷ n ∷ [])) (NoteRest false (a, n)) p q (two-note a n) r
-full-read true a n p q e r = absurd (let z : ◌≡◌ {A = ℕ} 0 1 = cc in omega arith)
+bare-refused false p x e r = cc
 
 pub full-refused : (b : Bool) (p : Reader) (x : ℕ) → not b ≡ true → Refused (Any (RowOf 2)) p x → Refused (Any (NoteRest b)) p x
 full-refused false p x e r = refused-same (Any (RowOf 2)) (Any (NoteRest false)) p x (λ t h. full-note h.0 t h.1.0 h.1.1) (λ t h. (h.0.0 ∷ h.0.1 ∷ [], (refl, note-two h.0 t h.1))) r
-full-refused true p x e r = absurd (let z : ◌≡◌ {A = ℕ} 0 1 = cc in omega arith)
+full-refused true p x e r = cc
 
 -- The line
 
@@ -214,11 +203,3 @@ pub line-tail : (f : ℕ) (t u : Tag) (p q : Reader) (e : ℕ) → t ≡ u → R
 line-tail f t u p q e i r h =
     let P : Tag → Type 0 = λ x. Read (TagAt f x) p q in
     refused-same (Then (TagAt f) Tail) (Any (LineAt f)) p e (line-to f) (line-from f) (refused-right (TagAt f) Tail u p q e (coded-tag f) (subst P i r) h)
-
-read-then : (A B C : List ℕ → Type 0) (p q r : Reader) → ((s a b : List ℕ) → s ≡ a ++ b → A a → B b → C s) → Read A p q → Read B q r → Read C p r
-read-then A B C p q r f a b = (
-  a.0 ++ b.0,
-  a.1 ∙ ap (λ t. a.0 ++ t) b.1 ∙ sym (append_assoc a.0 b.0 r.left.now),
-  rw length-append (omega (arith, a.2, b.2)),
-  f (a.0 ++ b.0) a.0 b.0 refl a.3 b.3,
-)

@@ -146,12 +146,12 @@ pub kept : (E : Entries) (l : Line) (fault : LineFault) → answer_to E l ≡ Er
 kept E (Sizes f a n) fault h = go (size_answer E f a) h
   where
     go : (r : Result (Unit {0}) SizeFault) → by_size r ≡ Err fault → granted r E (with_size E f a) ≡ E
-    go (Ok x) h = absurd (let z : ◌≡◌ {A = ℕ} 0 1 = cc in omega arith)
+    go (Ok x) h = cc
     go (Err x) h = refl
 kept E (Note r a p) fault h = go (note_answer E (number_of r) a p) h
   where
     go : (x : Result (Unit {0}) NoteFault) → by_note x ≡ Err fault → granted x E (written_by (role_of (number_of r)) E a p) ≡ E
-    go (Ok x) h = absurd (let z : ◌≡◌ {A = ℕ} 0 1 = cc in omega arith)
+    go (Ok x) h = cc
     go (Err x) h = refl
 
 pub line-long : (l : Line) → 2 ≤ length (line_text l)
@@ -207,6 +207,3 @@ fault-outcome E T p q s (Err x) e l z g h = stop-outcome E T p q s x e l z g h
 
 pub done-outcome : (E T : Entries) (p q : Reader) (s : List ℕ) (n : ℕ) → p.left.now ≡ s → Ends 0 0 E p (Ok n) T q → Outcome E s (Ok (n, q.left.now)) T
 done-outcome E T p q s n e h = let P : List ℕ → Type 0 = λ t. Outcome E t (Ok (n, q.left.now)) T in subst P e h
-
-pub ends_at : (f m i j : ℕ) (E T : Entries) (fault : LineFault) (p q : Reader) → i ≡ j → Ends f m E p (Err (RefusedAt j fault)) T q → Ends f m E p (Err (RefusedAt i fault)) T q
-ends_at f m i j E T fault p q e h = (h.0, e ∙ h.1, h.2)

@@ -1,4 +1,4 @@
-//! What is left to read of a text, and how much was read.
+//! What is left to read of a text, and how much was read: the first is matched by slice patterns, the second is what a fault needs.
 
 ghost use Rattle.std.specs.Prelude.{◌+◌, ◌^◌, ◌<◌, length};
 

@@ -3,7 +3,7 @@
 ghost use Rattle.std.specs.Prelude.{◌≡◌};
 ghost use Rattle.text.specs.Faults.{line_refusal, table_refusal};
 ghost use Rattle.text.specs.declared.faults.LineFault.TheVariants.{Size as OfSize, Note as OfNote};
-ghost use Rattle.text.specs.declared.faults.Stop.TheVariants.{Malformed as BadAt, Refused as RefusedBy};
+ghost use Rattle.text.specs.declared.faults.Stop.TheVariants.{Malformed as BadAt};
 
 use crate::cursor::Malformed;
 use refusal::{Fault, Refusal};
@@ -32,13 +32,6 @@ pub(crate) enum Stop {
     Refused { at: usize, fault: LineFault },
 }
 
-/// A line that the draft refuses, by the place of its line feed.
-#[derive(Clone, Copy)]
-pub(crate) struct RefusedLine {
-    pub at: usize,
-    pub fault: LineFault,
-}
-
 impl From<SizeFault> for LineFault {
     ghost from_gives = { λ e r. r ≡ OfSize e };
 
@@ -60,17 +53,6 @@ impl From<Malformed> for Stop {
 
     fn from(e: Malformed) -> Stop {
         Stop::Malformed { at: e.at }
-    }
-}
-
-impl From<RefusedLine> for Stop {
-    ghost from_gives = { λ e r. r ≡ RefusedBy e.at e.fault };
-
-    fn from(e: RefusedLine) -> Stop {
-        Stop::Refused {
-            at: e.at,
-            fault: e.fault,
-        }
     }
 }
 
@@ -99,6 +81,7 @@ impl Fault for TableFault {
     }
 }
 
+// Of this type alone: an impl for every fault would overlap with the `From<T> for T` of std, since a refusal is a fault, too.
 impl From<TableFault> for Refusal {
     ghost from_gives = { λ e r. r ≡ table_refusal e };
 

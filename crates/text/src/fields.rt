@@ -1,4 +1,5 @@
-//! Numbers in columns: four bytes, blanks and then digits, with no leading zero.
+//! Numbers in columns: four bytes, blanks and then digits, with no leading zero. The errors here are bare places within the bytes at
+//! hand; `Malformed` has the place within the text.
 
 ghost use Rattle.std.specs.Prelude.{◌≡◌, ◌<◌, None, take, MatchResult};
 ghost use Rattle.text.specs.Columns.{Within, column, read_on};

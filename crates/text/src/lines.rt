@@ -81,6 +81,7 @@ impl<'a> Reader<'a> {
     }
 
     // Reads a number: four bytes, and the rest is left.
+    // This and `tag` each take the line apart by a slice pattern, of four bytes and of two: a shared reader would hide how many.
     fn number(&mut self) -> Result<u16, Malformed>
         ensures { MatchResult result
             (λ n. Read (Number n) self.old self.new)
@@ -95,6 +96,7 @@ impl<'a> Reader<'a> {
     }
 
     // Reads the tag of a line that may stand after one of this role: two bytes, and the rest is left.
+    // The role is a parameter and no field: what may follow is no part of what is left to read.
     fn tag(&mut self, last: Option<Role>) -> Result<Tag, Malformed>
         ensures { MatchResult result
             (λ t. Read (TagAt (rank_in last) t) self.old self.new)

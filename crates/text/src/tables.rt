@@ -6,7 +6,7 @@ ghost use Rattle.text.specs.Ends.{Ends, fault_at, stop_at};
 ghost use Rattle.text.specs.Outcomes.{NoOther, Outcome, after_line, answer_to, said};
 
 use crate::cursor::{Malformed, Reader};
-use crate::faults::{LineFault, RefusedLine, Stop, TableFault};
+use crate::faults::{LineFault, Stop, TableFault};
 use crate::lines::Line;
 use crate::places::place;
 use planner::Draft;
@@ -36,7 +36,7 @@ impl<'a> Reader<'a> {
         let mut steps = 0;
         while let Some(line) = self.line(last)? {
             let at = self.at - 1;
-            apply(draft, line).map_err(|fault| RefusedLine { at, fault })?;
+            apply(draft, line).map_err(|fault| Stop::Refused { at, fault })?;
             last = Some(line.role());
             steps = line.steps(steps);
         }

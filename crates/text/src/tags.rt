@@ -63,6 +63,7 @@ impl Tag {
 }
 
 /// The tag with which `s` begins, if it may stand there, or the place of the first byte with which none continues.
+/// The error is a bare place within `s`; `Malformed` has the place within the text.
 pub(crate) fn leading_tag(s: &[u8], last: Option<Role>) -> Result<Tag, usize>
     ensures tag { result ≡ tag_at (rank_in last) s.now }
     ensures place { IfErr result (λ k. k ≤ length s.now) }

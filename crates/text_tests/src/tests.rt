@@ -12,23 +12,14 @@ const TEXT: [u8; LENGTH] =
 // The steps that a text gives and how many bytes are left after it, or the refusal's number and figures.
 type Reading = Result<(u32, usize), Code>;
 
-fn refused(number: u32, first: u128, second: u128, third: u128) -> Reading {
-    Err(Code {
-        number,
-        first,
-        second,
-        third,
-    })
-}
-
 // No lawful text goes on so at this line and column.
 fn malformed(line: u128, column: u128) -> Reading {
-    refused(18, line, column, 0)
+    Err(Code::new(18, line, column, 0))
 }
 
 // The draft refuses this line, by this number.
 fn declined(line: u128, number: u128) -> Reading {
-    refused(20, line, 0, number)
+    Err(Code::new(20, line, 0, number))
 }
 
 fn reading_into(draft: &mut Draft, text: &[u8]) -> Reading {

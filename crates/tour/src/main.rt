@@ -1,11 +1,14 @@
-//! A tour of the library: two small cells are described call by call, sealed, and their plans run event by event.
+//! A tour of the library: two small cells are described call by call or read from a text, sealed, their plans run event by event, and
+//! clauses emitted.
 #![tactic(auto)]
 
 mod cells;
+mod clauses;
 mod showing;
 mod texts;
 
 use cells::{HANDOVER, SINGLE};
+use clauses::show_clauses;
 use showing::{show_plan, show_refused_plan};
 use std::io;
 use texts::show_text;
@@ -34,5 +37,12 @@ fn main(rt: HostRuntime) -> io::Result<()> {
     show_text(&rt, lawful, &[(1, 1), (1, 3), (1, 4), (2, 2)])?;
     println!(rt; "With a leading zero on line 3, and with a fact that there is not:")?;
     show_text(&rt, b"SZ   2   2   2\nGO   2\nSA  01   1\nZZ\n", &[])?;
-    show_text(&rt, b"SZ   2   2   2\nGO   3\nZZ\n", &[])
+    show_text(&rt, b"SZ   2   2   2\nGO   3\nZZ\n", &[])?;
+
+    println!(rt; "")?;
+    println!(rt; "Cell one's clauses of one step, as a text:")?;
+    show_clauses(&rt, &single, 1)?;
+    println!(rt; "Those of two steps have no room, and there are none of 65:")?;
+    show_clauses(&rt, &single, 2)?;
+    show_clauses(&rt, &single, 65)
 }

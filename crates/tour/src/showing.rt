@@ -34,7 +34,7 @@ pub fn show_plan(rt: &HostRuntime, job: &Job, n: u32, plan: &[(u32, u32)]) -> io
         let action = owner(*event);
         let verb = if starts(*event) { "starts" } else { "ends" };
         print!(rt; "  step {step}: action {action} {verb}; true now:")?;
-        match state_after(job, &plan[0..i + 1]) {
+        match state_after(job, &plan[..i + 1]) {
             Some(state) => show_facts(rt, &state)?,
             None => println!(rt; " unknown")?,
         }

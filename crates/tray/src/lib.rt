@@ -12,8 +12,8 @@ mod search;
 
 pub use fault::TrayFault;
 
-/// A list in lent memory: the first `count` slots, or all of them where `count` is larger. So any two fields make a tray, and there
-/// is no invariant to keep.
+/// A list in lent memory, as no heap is used here: the first `count` slots, or all of them where `count` is larger. So any two fields make a tray, and there
+/// is no invariant to keep. No model stands for it as a list: its whole memory, and whose it is, stay in every contract.
 #[derive(Drop)]
 pub struct Tray<'a, T> {
     slots: &'a mut [T],

@@ -1,12 +1,14 @@
 //! The start's clauses, the agenda's and the kept ones of the first step, and the goal's as if the first step were still to come.
+//!
+//! Each loop puts clauses of its own: one loop for all, over a closure, would have to be given, for the proof alone, which clauses they are.
 
-ghost use Rattle.std.specs.Prelude.{◌≡◌, not, ◌&&◌, [], ◌∷◌, if◌then◌else◌, ◌==◌, nat_lt};
+ghost use Rattle.std.specs.Prelude.{◌≡◌, not, ◌&&◌, if◌then◌else◌, ◌==◌, nat_lt};
 ghost use Rattle.encoding.specs.Clauses.{agenda, goal, goal_facts, is, isnt, kept, none_open, numbered, start, start_facts};
-ghost use Rattle.encoding.specs.Ranges.{each, only};
+ghost use Rattle.encoding.specs.Ranges.{each};
 ghost use Rattle.encoding.specs.Tables.{harms, owner as owner_of};
 ghost use Rattle.encoding.specs.Variables.{O, Y, number};
 ghost use Rattle.formula.specs.Layouts.{table_in};
-ghost use Rattle.formula.specs.Listings.{Joined, lit, lits};
+ghost use Rattle.formula.specs.Listings.{Joined, lit};
 ghost use Rattle.formula.specs.Parts.{kept_at};
 
 use super::Layout;
@@ -69,7 +71,7 @@ impl<'a> Layout<'a> {
         ensures { Joined out.old out.new (numbered (table_in self.now) (goal_facts (table_in self.now) 0)) }
     {
         for fact in 1..=self.table.facts() {
-            put_if(self.table.goal(fact), Clause::One(Literal::Is(fact)), out);
+            out.push_if(self.table.goal(fact), Clause::One(Literal::Is(fact)));
         }
     }
 
@@ -90,7 +92,7 @@ impl<'a> Layout<'a> {
             let action = Action { number };
             let open = self.open_at_turn(event, action);
             let clause = Clause::Two(Literal::Isnt(self.event(event)), Literal::Isnt(open));
-            put_if(self.excludes(event, action), clause, out);
+            out.push_if(self.excludes(event, action), clause);
         }
     }
 
@@ -121,14 +123,5 @@ fn literal(holds: bool, variable: u32) -> Literal
         Literal::Is(variable)
     } else {
         Literal::Isnt(variable)
-    }
-}
-
-// Puts the clause if the test holds.
-pub(super) fn put_if<const N: usize>(test: bool, clause: Clause, out: &mut Listing<N>)
-    ensures { Joined out.old out.new (only test (lits clause ∷ [])) }
-{
-    if test {
-        out.push(clause);
     }
 }

@@ -20,6 +20,7 @@ impl<'a> Layout<'a> {
     }
 
     /// How many variables a step has.
+    #[tactic(auto, unfolding(encoding::specs::Variables::step_size))]
     pub(crate) fn step_size(&self) -> u32
         ensures { result ≡ step_size (table_in self.now) }
     {
@@ -27,6 +28,7 @@ impl<'a> Layout<'a> {
     }
 
     /// How many variables come before those of the first step.
+    #[tactic(auto, using(crate::proofs::Numbers::first_variables))]
     pub(crate) fn before_steps(&self) -> u32
         ensures count { result ≡ variables (table_in self.now) 0 }
         ensures few { result ≤ 48 }
@@ -43,6 +45,7 @@ impl<'a> Layout<'a> {
     }
 
     /// Whether an event is in the first step.
+    #[tactic(auto, unfolding(encoding::specs::Variables::number))]
     pub(crate) fn event(&self, event: Event) -> u32
         ensures { result ≡ number (table_in self.now) (Y 1 event.number) }
     {
@@ -50,6 +53,7 @@ impl<'a> Layout<'a> {
     }
 
     /// Whether a fact is true after the first step.
+    #[tactic(auto, unfolding(encoding::specs::Variables::number))]
     pub(crate) fn fact_after(&self, fact: u32) -> u32
         requires { fact ≤ fact_limit }
         ensures { result ≡ number (table_in self.now) (X 1 fact) }
@@ -58,6 +62,7 @@ impl<'a> Layout<'a> {
     }
 
     /// Whether an action is open at the beginning.
+    #[tactic(auto, unfolding(encoding::specs::Variables::number))]
     pub(crate) fn open_before(&self, action: Action) -> u32
         ensures { result ≡ number (table_in self.now) (O 0 action.number) }
     {
@@ -65,6 +70,7 @@ impl<'a> Layout<'a> {
     }
 
     /// Whether an action is open after the first step.
+    #[tactic(auto, unfolding(encoding::specs::Variables::number))]
     pub(crate) fn open_after(&self, action: Action) -> u32
         ensures { result ≡ number (table_in self.now) (O 1 action.number) }
     {

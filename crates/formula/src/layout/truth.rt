@@ -32,6 +32,7 @@ impl<'a> Layout<'a> {
     pub(crate) fn put_truth<const N: usize>(&self, out: &mut Listing<N>)
         ensures { Joined out.old out.new (numbered (table_in self.now) (truth (table_in self.now) 0)) }
     {
+        // like the loop over events below, a loop of its own: one over a closure would have to be given, for the proof alone, which clauses it puts
         let mut before = 0;
         for fact in 1..=self.table.facts() {
             let width = width(self.table, fact);
@@ -60,6 +61,7 @@ impl Chain<'_> {
     }
 
     // The variable that has the fact's value where `count` relevant events are past: that of the next pair, or that of the fact after the step.
+    #[tactic(auto, unfolding(encoding::specs::Variables::number))]
     fn next(&self, count: u32) -> u32
         requires { count ≤ 32 }
         ensures { result ≡ next_at (table_in self.now.layout.now) self.now.fact (variables (table_in self.now.layout.now) 0) self.now.before count }

@@ -4,7 +4,6 @@ ghost use Rattle.std.specs.Prelude.{◌≡◌};
 ghost use Rattle.encoding.specs.Clauses.{pass_on, turn};
 ghost use Rattle.formula.specs.Listings.{Joined};
 
-use super::families::put_if;
 use crate::clauses::{Clause, Literal};
 use crate::groups::{same, same_unless};
 use crate::listing::Listing;
@@ -26,7 +25,7 @@ impl Turn {
         ensures { Joined out.old out.new (turn self.now.needs self.now.adds self.now.deletes self.now.event self.now.before self.now.after) }
     {
         let needed = Clause::Two(Literal::Isnt(self.event), Literal::Is(self.before));
-        put_if(self.needs, needed, out);
+        out.push_if(self.needs, needed);
         self.put_passed_on(out);
     }
 
@@ -34,6 +33,7 @@ impl Turn {
     fn put_passed_on<const N: usize>(&self, out: &mut Listing<N>)
         ensures { Joined out.old out.new (pass_on self.now.adds self.now.deletes self.now.event self.now.before self.now.after) }
     {
+        // the branches of adds and deletes follow the two cases of the definition
         if self.adds {
             out.push(Clause::Two(Literal::Isnt(self.event), Literal::Is(self.after)));
             out.extend(&same_unless(self.event, self.before, self.after));

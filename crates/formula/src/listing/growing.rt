@@ -1,6 +1,7 @@
 //! How a listing begins and grows, and what it holds.
 
 ghost use Rattle.std.specs.Prelude.{◌≡◌, [], ◌∷◌, map};
+ghost use Rattle.encoding.specs.Ranges.{only};
 ghost use Rattle.formula.specs.Listings.{Joined, lits, values};
 
 use super::Listing;
@@ -21,10 +22,20 @@ impl<const N: usize> Listing<N> {
     pub(crate) fn push(&mut self, clause: Clause)
         ensures { Joined self.old self.new (lits clause ∷ []) }
     {
+        // tried with get_mut: what the slots hold afterwards stays open
         let at = self.count;
         if at < N {
             self.slots[at] = clause;
             self.count = at + 1;
+        }
+    }
+
+    /// Puts a clause after the last, if the test holds and there is room.
+    pub(crate) fn push_if(&mut self, test: bool, clause: Clause)
+        ensures { Joined self.old self.new (only test (lits clause ∷ [])) }
+    {
+        if test {
+            self.push(clause);
         }
     }
 

@@ -18,6 +18,7 @@ impl Template {
         ensures labels { (n : ℕ) → tagged_unrolled result n ≡ labelled (meant table.now) n }
     {
         let layout = Layout::of(table);
+        // five listings of four sizes, each with a put of its own
         let mut start = Listing::none();
         layout.put_start(&mut start);
         let mut agenda = Listing::none();

@@ -6,7 +6,7 @@ ghost use Rattle.formula.specs.Templates.{family_in, family_number};
 use super::{Family, Template};
 use crate::clauses::Clause;
 
-/// The number of a family.
+/// The number of a family: the one that a false clause is reported with.
 impl From<Family> for u32 {
     ghost from_gives = { λ family n. n ≡ family_number family };
 

@@ -34,6 +34,7 @@ impl Table {
         }
     }
 
+    // facts and actions are two numbers here, as in the table
     pub fn resize(&mut self, facts: u32, actions: u32) -> Result<(), SizeFault>
         ensures answer { result ≡ size_answer (entries_of self.old) facts actions }
         ensures after { entries_of self.new ≡ after_size (entries_of self.old) facts actions }
@@ -44,6 +45,7 @@ impl Table {
         Ok(())
     }
 
+    // the role by its number: any number may be given, and one that is no role is refused
     pub fn note(&mut self, role: u32, action: u32, fact: u32) -> Result<(), NoteFault>
         ensures answer { result ≡ note_answer (entries_of self.old) role action fact }
         ensures after { entries_of self.new ≡ after_note (entries_of self.old) role action fact }
@@ -67,6 +69,7 @@ impl Table {
         Ok(())
     }
 
+    // role, action and fact are three parameters here, too: each test looks at them apart
     fn permits_note(&self, role: Role, action: u32, fact: u32) -> Result<(), NoteFault>
         ensures { result ≡ role_answer (entries_of self.now) role action fact }
     {

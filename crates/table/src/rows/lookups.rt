@@ -26,6 +26,7 @@ impl Table {
         self.rows[u32::from(role) as usize].facts(action)
     }
 
+    // initial, goal and held are one look-up each, in the subject's words
     pub fn initial(&self, fact: u32) -> bool
         ensures { result ≡ (meant self.now).initial fact }
     {
@@ -44,7 +45,8 @@ impl Table {
         self.noted(Role::Held, action, fact)
     }
 
-    // what an event needs, adds and deletes are one look-up, at the event's action, in the role of its kind
+    // what an event needs, adds and deletes are one look-up, at the event's action, in the role of its kind; three names, since they are the
+    // subject's words. Event and fact stay two parameters: the subject, and what is asked of it
     pub(crate) fn needs(&self, event: u32, fact: u32) -> bool
         ensures { result ≡ (meant self.now).needs event fact }
     {

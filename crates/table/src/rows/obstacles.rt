@@ -1,4 +1,5 @@
-//! When an event runs and what it does, and what is left undone at the end.
+//! When an event runs and what it does, and what is left undone at the end. Event and state stay two parameters: the event is asked about,
+//! and the state is where it would run.
 
 ghost use Rattle.std.specs.Prelude.{◌≡◌, ◌≤◌};
 ghost use Rattle.encoding.specs.Plans.{after, initially as at_first};

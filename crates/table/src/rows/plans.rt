@@ -1,4 +1,5 @@
-//! Plans, run on a table from the beginning: a list of pairs is a valid plan, or there is a first reason why not.
+//! Plans, run on a table from the beginning: a list of pairs is a valid plan, or there is a first reason why not. The number of steps and the
+//! plan stay two parameters: any plan is compared with any n. Pairs are looped over with their places, since a place is the answer.
 
 ghost use Rattle.std.specs.Prelude.{◌≡◌, ℕ, ◌<◌, ◌≤◌, true, false, ◌&&◌, length, MatchOption, slice_index_or};
 ghost use Rattle.encoding.specs.Plans.{initially as at_first, run as run_of};

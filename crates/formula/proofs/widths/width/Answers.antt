@@ -1,26 +1,18 @@
--- One event more is counted if it is relevant.
+-- The relevant ones among the events are counted.
 -- Assumes nothing.
-use Rattle.std.proofs.Common.{◌*◌, cond, refl, ap, ◌∙◌, arith}
-use Rattle.encoding.specs.Ranges.{count}
+use Rattle.std.proofs.Common.{◌*◌, ap, ◌∙◌, rules, tests}
+use Rattle.std.proofs.lemmas.Iterator.Consumers.{YieldsList-from_filter, YieldsList-at, count_from_yields_List}
+use Rattle.std.proofs.lemmas.List.Sums.{length-filter}
 use Rattle.encoding.specs.Tables.{relevant}
 use Rattle.encoding.specs.Variables.{width}
 use Rattle.table.specs.Model.{meant}
-use Rattle.formula.proofs.Ranges.{bit_is, bit-small, counted}
+use Rattle.formula.proofs.Totals.{count-numbers, gives-up-to}
 use Rattle.formula.proofs.widths.width.Goals as goal
 
-pub loop-event-init : goal.loop-event-init
-unfolding count
-loop-event-init c = (refl, omega arith)
-
-pub loop-event-preserved : goal.loop-event-preserved
-loop-event-preserved c = (
-  counted c.loop-event.event _ c.loop-event.count _ (λ e. relevant (meant c.args.table.now) e c.args.fact) c.loop-event.auto.event (omega arith) c.loop-event.invariant.0
-      (c.from-count.ensures ∙ bit_is c.relevant.result ∙ ap (λ b. cond b 1 0) c.relevant.ensures),
-  omega (arith, c.from-count.ensures, bit-small c.relevant.result),
-)
-
-pub returns-2 : goal.returns-2
+pub returns : goal.returns
 unfolding width
-returns-2 c =
-    counted c.loop-event.event (2 * (meant c.args.table.now).actions) c.loop-event.count _ (λ e. relevant (meant c.args.table.now) e c.args.fact) c.loop-event.auto.event (omega arith) c.loop-event.invariant.0
-    (c.from-count.ensures ∙ bit_is c.relevant.result ∙ ap (λ b. cond b 1 0) c.relevant.ensures)
+returns c =
+    let T = meant c.args.table.now in
+    count_from_yields_List c.filter.result _ c.count.ensures.ran
+    (YieldsList-from_filter _ (λ e. relevant T e c.args.fact) (YieldsList-at c.filter.ensures.source (gives-up-to (2 * T.actions) _ c.new.ensures.start (c.new.ensures.end ∙ ap (λ n. 2 * n) c.actions.ensures) c.new.ensures.exhausted)) c.filter.ensures.closure (λ x b q k. search (rules, tests)))
+    ∙ length-filter (λ e. relevant T e c.args.fact) _ ∙ count-numbers (2 * T.actions) (λ e. relevant T e c.args.fact)

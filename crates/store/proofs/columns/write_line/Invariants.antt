@@ -5,4 +5,4 @@ use Rattle.store.specs.Rendering.{field, width}
 use Rattle.store.proofs.columns.write_line.Given as goal
 
 abbrev pub invariant-loop-i : goal.invariant-loop-i
-invariant-loop-i l = take (width * l.i) l.line ≡ flat_map (field width) (take l.i l.clause)
+invariant-loop-i l = take (width * l.i) l.line ≡ flat_map (field width) (take l.i l.clause.literals.now)

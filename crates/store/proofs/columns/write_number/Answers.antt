@@ -1,5 +1,5 @@
 -- The last byte is a digit in any case; the others are filled.
-use Rattle.std.proofs.Common.{◌≡◌, ◌+◌, ◌%◌, suc, ◌++◌, ◌∷◌, [], length, sym, ap, ◌∙◌, subst, arith, ◌≤◌, length-append, rules}
+use Rattle.std.proofs.Common.{◌≡◌, ◌+◌, ◌%◌, suc, ◌++◌, ◌∷◌, [], length, sym, ap, ◌∙◌, arith, ◌≤◌, rules}
 use Rattle.store.specs.Rendering.{justified}
 use Rattle.store.specs.Spelling.{spelled}
 use Rattle.store.proofs.Justify.{last_digit}

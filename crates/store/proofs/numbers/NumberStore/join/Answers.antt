@@ -12,26 +12,26 @@ overflow_add-self-3 c =
 
 pub write_clause-requires : goal.write_clause-requires
 write_clause-requires c =
-    let p = clause-parts c.args.clause.now c.requires.lawful in
-    omega (arith, cost-by (λ k. k + 1) (length c.args.clause.now) p.0 p.1, c.requires.room)
+    let p = clause-parts c.args.clause.literals.now c.args.clause.lawful in
+    omega (arith, cost-by (λ k. k + 1) (length c.args.clause.literals.now) p.0 p.1, c.requires)
 
 pub invariant_of-self : goal.invariant_of-self
 invariant_of-self c =
     let o = c.args.self.now in
-    let p = clause-parts c.args.clause.now c.requires.lawful in
-    let k = cost-by (λ k. k + 1) (length c.args.clause.now) p.0 p.1 in
-    let f : o.used + (length c.args.clause.now + 1) ≤ length o.numbers.now = omega (arith, k, c.requires.room) in
-    let w = wrote o.numbers.now o.used o.count o.within o.laid o.counted c.args.clause.now c.write_clause.new.numbers p.2 f c.write_clause.ensures in
+    let p = clause-parts c.args.clause.literals.now c.args.clause.lawful in
+    let k = cost-by (λ k. k + 1) (length c.args.clause.literals.now) p.0 p.1 in
+    let f : o.used + (length c.args.clause.literals.now + 1) ≤ length o.numbers.now = omega (arith, k, c.requires) in
+    let w = wrote o.numbers.now o.used o.count o.within o.laid o.counted c.args.clause.literals.now c.write_clause.new.numbers p.2 f c.write_clause.ensures in
     record { within = omega (arith, w.same_length); laid = w.laid; counted = w.counted }
 
 pub returns : goal.returns
 returns c =
     let o = c.args.self.now in
-    let p = clause-parts c.args.clause.now c.requires.lawful in
-    let k = cost-by (λ k. k + 1) (length c.args.clause.now) p.0 p.1 in
-    let f : o.used + (length c.args.clause.now + 1) ≤ length o.numbers.now = omega (arith, k, c.requires.room) in
-    let w = wrote o.numbers.now o.used o.count o.within o.laid o.counted c.args.clause.now c.write_clause.new.numbers p.2 f c.write_clause.ensures in
+    let p = clause-parts c.args.clause.literals.now c.args.clause.lawful in
+    let k = cost-by (λ k. k + 1) (length c.args.clause.literals.now) p.0 p.1 in
+    let f : o.used + (length c.args.clause.literals.now + 1) ≤ length o.numbers.now = omega (arith, k, c.requires) in
+    let w = wrote o.numbers.now o.used o.count o.within o.laid o.counted c.args.clause.literals.now c.write_clause.new.numbers p.2 f c.write_clause.ensures in
     record {
-      joins = record { lawful = c.requires.lawful; room = c.requires.room; held = w.held; units = omega (arith, k, w.same_length) };
+      joins = record { lawful = c.args.clause.lawful; room = c.requires; held = w.held; units = omega (arith, k, w.same_length) };
       grows = record { same_lender = refl; same_length = w.same_length; used_more = omega arith; beyond = w.beyond };
     }

@@ -2,10 +2,11 @@
 use Rattle.std.proofs.Common.{◌≡◌, ◌-◌, Ok, Err, sym, ◌∙◌, rules}
 use Rattle.planner.specs.Contents.{in_draft}
 use Rattle.std.proofs.lemmas.Result.{err_from_is_err_and}
+use Rattle.text.specs.declared.faults.LineFault.{LineFault}
 use Rattle.text.specs.declared.faults.Stop.TheVariants.{Malformed, Refused}
 use Rattle.table.specs.Roles.{number_of}
 use Rattle.text.specs.Tags.{rank_in}
-use Rattle.text.proofs.Runs.{ends_next, ends_close, ends_stuck, ends-refused, lined, closed, ends_at}
+use Rattle.text.proofs.Runs.{ends_next, ends_close, ends_stuck, ends-refused, lined, closed}
 use Rattle.text.proofs.cursor.Reader.table.Goals as goal
 
 pub returns-in_err-line : goal.returns-in_err-line
@@ -25,11 +26,9 @@ returns-in_err-map_err c =
     let x = c.in-Some.line in
     let a = c.in_err-map_err.field-0.0 in
     let r = lined f c.in_ok-line.field-0 x p q c.in-Some.is c.in_ok-line.ensures in
-    let g : c.apply.result ≡ Err a.fault = search rules in
-    let h : a.at ≡ q.at - 1 = search rules in
-    rw (y.1, y.2) (l.invariant (Err (Refused a.at a.fault)) (in_draft c.apply.new.draft) q
-    (ends_at f l.steps a.at (q.at - 1) (in_draft l.draft) (in_draft c.apply.new.draft) a.fault p q h
-    (ends-refused f l.steps (in_draft l.draft) (in_draft c.apply.new.draft) x a.fault p q r (sym c.apply.ensures.answer ∙ g) c.apply.ensures.after)))
+    let g : (e : LineFault) × (c.apply.result ≡ Err e) × (a ≡ Refused (q.at - 1) e) = search rules in
+    rw (y.1, y.2, g.2) (l.invariant (Err (Refused (q.at - 1) g.0)) (in_draft c.apply.new.draft) q
+    (ends-refused f l.steps (in_draft l.draft) (in_draft c.apply.new.draft) x g.0 p q r (◌∙◌ {c = Err g.0} (sym c.apply.ensures.answer) g.1) c.apply.ensures.after))
 
 pub loop-line-preserved : goal.loop-line-preserved
 loop-line-preserved c r T z h =

@@ -7,4 +7,4 @@ use Rattle.formula.proofs.layout.turns.Turn.put.Goals as goal
 
 pub returns : goal.returns
 unfolding turn
-returns g c = joined-two c.args.out.now c.put_if.new.out c.put_passed_on.new.out _ _ _ c.put_if.ensures c.put_passed_on.ensures refl
+returns g c = joined-two c.args.out.now c.push_if.new.self c.put_passed_on.new.out _ _ _ c.push_if.ensures c.put_passed_on.ensures refl
