@@ -43,5 +43,5 @@ pub runs-by : {A : Type 0} (input : List ℕ) (output : Result (Vec ℕ A) Stop)
 runs-by input (Ok text) (Ok done) before after p e w = (vec_items text, p, w)
 runs-by input (Err stop) (Ok done) before after p e w = absurd (search rules)
 runs-by input output (Err (Refused refusal)) before after p e w = (subst (Answers input) e p, w)
-runs-by input output (Err OutOfMemory) before after p e w = tt
+runs-by input output (Err OutOfMemory) before after p e w = w
 runs-by input output (Err (Failed error)) before after p e w = tt

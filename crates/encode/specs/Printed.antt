@@ -54,12 +54,12 @@ Answers input (Err (Refused refusal)) = Prints input (Err refusal)
 Answers input (Err OutOfMemory) = ⊤
 Answers input (Err (Failed error)) = ⊥
 
--- What the program has written when it ends, after what stood there before: it ends well after the text, and as refused after the line.
--- If it failed, nothing is said of it
+-- What the program has written when it ends, after what stood there before: it ends well after the text, as refused after the line, and
+-- with nothing written where memory ran out. If it failed, nothing is said of it
 abbrev pub Runs : List ℕ → Result (Unit {0}) Stop → Option (List ℕ) → Option (List ℕ) → Type 0
 Runs input (Ok done) before after = (text : List ℕ) × Prints input (Ok text) × Appends before after text
 Runs input (Err (Refused refusal)) before after = Prints input (Err refusal) × Appends before after (refusal_line (code_of refusal))
-Runs input (Err OutOfMemory) before after = ⊤
+Runs input (Err OutOfMemory) before after = before ≡ after
 Runs input (Err (Failed error)) before after = ⊤
 
 -- The same before anything is printed, for a store of any kind, s before and t after; r is what the inner function answers

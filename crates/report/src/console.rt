@@ -5,7 +5,7 @@ ghost use Rattle.std.specs.Prelude.{◌≡◌};
 ghost use Rattle.report.specs.Endings.{Ends, Writes};
 
 use crate::outputs::{LONGEST_INPUT, Stop};
-use crate::refusals::RefusalLine;
+use crate::refusals::print_line;
 use std::io;
 use std::io::{Read, Write};
 
@@ -31,8 +31,7 @@ pub fn print_output<W: Write>(to: &mut W, output: Result<Vec<u8>, Stop>) -> Resu
             Ok(())
         }
         Err(Stop::Refused(refusal)) => {
-            let line = RefusalLine(refusal.code());
-            writeln!(to, "{line}")?;
+            print_line(to, refusal.code())?;
             Err(Stop::Refused(refusal))
         }
         Err(failure) => Err(failure),

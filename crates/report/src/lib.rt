@@ -6,6 +6,7 @@
 #![tactic(auto)]
 
 mod console;
+mod endings;
 mod events;
 mod outputs;
 mod refusals;
@@ -13,7 +14,7 @@ mod refusals;
 pub use console::{print_output, read_input};
 pub use events::{EventLine, event_lines};
 pub use outputs::{LONGEST_INPUT, Stop, is_too_long};
-pub use refusals::RefusalLine;
+pub use refusals::{RefusalLine, print_line};
 
 #[cfg(test)]
 mod tests;

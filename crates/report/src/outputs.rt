@@ -12,7 +12,7 @@ use std::io;
 pub const LONGEST_INPUT: usize = 32_768;
 
 /// Why a program ends with status 1: what it was asked for is refused, or it could not get memory, read or print.
-#[derive(Debug, Drop)]
+#[derive(Drop)]
 pub enum Stop {
     Refused(Refusal),
     OutOfMemory,

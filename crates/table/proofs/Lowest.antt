@@ -1,4 +1,4 @@
--- The numbers 1 .. n, as `1..=n` gives them, and the lowest of them at which a test holds.
+-- The numbers 1 .. n, as `1..=n` gives them, and the lowest of them at which a test holds; also for a loop that looks for it turn by turn.
 -- Assumes nothing.
 use Rattle.std.proofs.Common.{◌≡◌, ℕ, zero, suc, ◌+◌, ◌-◌, ◌≤◌, Bool, true, false, cond, ◌||◌, eqb, List, [], ◌∷◌, ◌++◌, length, Some, None, Option, sym, refl, ap, ◌∙◌, ap₂, add-one, one-add, add-zero, arith}
 use Rattle.std.proofs.lemmas.Bool.{eqb-true, eqb-false}
@@ -70,14 +70,47 @@ module _ {F : Type 0} (n : ℕ) (f : ℕ → Bool) {s : RangeInclusive ℕ} (u :
       let e : left s ≡ n = omega (arith, ap (range_inclusive_len (λ x y. y - x) (range_inclusive_start s) (range_inclusive_end s)) fresh) in
       ap₂ range_with_len from e
 
-  pub lowest-found : {g : Mut F (Bor ℕ × Unit {0}) Bool} (r : Option ℕ) → FindsItem nat_range_inclusive_steps g s p r u
+  pub lowest-of-find : {g : Mut F (Bor ℕ × Unit {0}) Bool} (r : Option ℕ) → FindsItem nat_range_inclusive_steps g s p r u
       → ((x : ℕ) (b : Bool) (q : F) → CalledAt g p x b q → (q ≡ p) × (b ≡ f x)) → r ≡ lowest n f
-  lowest-found r ran says =
+  lowest-of-find r ran says =
       same_item r ∙ find_from_yields_List f u p r ran (gives_numbers s) says ∙ ap (find f) all-numbers ∙ find-numbers n f
 
   pub some-found : {g : Mut F (ℕ × Unit {0}) Bool} (r : Bool) → ChecksAny nat_range_inclusive_steps g s p r u
       → ((x : ℕ) (b : Bool) (q : F) → Called g p (x, tt) b q → (q ≡ p) × (b ≡ f x)) → r ≡ some n f
   some-found r ran says = any_from_yields_List f u p r ran (gives_numbers s) says ∙ ap (list_any f) all-numbers ∙ any-numbers n f
+
+-- A loop over 1 .. n that looks for the lowest number: none so far, at the start and after a turn, and found
+
+pub some-none : (f : ℕ → Bool) → some 0 f ≡ false
+unfolding some
+some-none f = refl
+
+pub some_more : (i : ℕ) (f : ℕ → Bool) → some i f ≡ false → f (i + 1) ≡ false → some (i + 1) f ≡ false
+unfolding some
+some_more i f h k = ap (λ m. some m f) (add-one i) ∙ ap₂ ◌||◌ h (ap f (sym (add-one i)) ∙ k)
+
+pub lowest-none : (f : ℕ → Bool) → lowest 0 f ≡ None
+unfolding lowest
+lowest-none f = refl
+
+pub lowest-more : (i : ℕ) (f : ℕ → Bool) → lowest i f ≡ None → f (i + 1) ≡ false → lowest (i + 1) f ≡ None
+unfolding lowest
+lowest-more i f h k =
+    ap (λ m. lowest m f) (add-one i) ∙ ap₂ (λ (o : Option ℕ) b. option_or o (cond b (Some (suc i)) None)) h (ap f (sym (add-one i)) ∙ k)
+
+found : (n i : ℕ) (f : ℕ → Bool) → lowest i f ≡ None → f (suc i) ≡ true → suc i ≤ n → lowest n f ≡ Some (suc i)
+unfolding lowest
+found zero i f h k l = absurd (omega arith)
+found (suc m) i f h k l = go (eqb i m) refl (λ u. found m i f h k u) where
+  go : (b : Bool) → eqb i m ≡ b → (suc i ≤ m → lowest m f ≡ Some (suc i)) → option_or (lowest m f) (cond (f (suc m)) (Some (suc m)) None) ≡ Some (suc i)
+  go true e r =
+      let j = sym (eqb-true i m e) in
+      ap (λ x. option_or (lowest x f) (cond (f (suc x)) (Some (suc x)) None)) j
+      ∙ ap₂ (λ (o : Option ℕ) b. option_or o (cond b (Some (suc i)) None)) h k
+  go false e r = let ne = eqb-false i m e in ap (λ (o : Option ℕ). option_or o (cond (f (suc m)) (Some (suc m)) None)) (r (omega arith))
+
+pub lowest-found : (n i : ℕ) (f : ℕ → Bool) → lowest i f ≡ None → f (i + 1) ≡ true → i + 1 ≤ n → Some (i + 1) ≡ lowest n f
+lowest-found n i f h k l = ap Some (add-one i) ∙ sym (found n i f h (ap f (sym (add-one i)) ∙ k) (omega arith))
 
 -- no number at all
 

@@ -13,6 +13,7 @@ pub(crate) enum Tag {
 }
 
 // The tag of two letters.
+#[inline(always)]
 fn tag_of(a: u8, b: u8) -> Option<Tag>
     ensures { result ≡ tag_of a b }
 {
@@ -33,6 +34,7 @@ fn tag_of(a: u8, b: u8) -> Option<Tag>
 }
 
 // Some tag that may stand after a line of this role begins with `a`.
+#[inline(always)]
 fn opens_line(a: u8, last: Option<Role>) -> bool
     ensures { result ≡ opens a (rank_in last) }
 {
@@ -51,6 +53,7 @@ fn opens_line(a: u8, last: Option<Role>) -> bool
 
 impl Tag {
     // The sizes come first, and then the notes, by their roles.
+    #[inline(always)]
     fn allowed(self, last: Option<Role>) -> bool
         ensures { result ≡ allows (rank_in last) self }
     {
@@ -64,6 +67,7 @@ impl Tag {
 
 /// The tag with which `s` begins, if it may stand there, or the place of the first byte with which none continues.
 /// The error is a bare place within `s`; `Malformed` has the place within the text.
+#[inline(always)]
 pub(crate) fn leading_tag(s: &[u8], last: Option<Role>) -> Result<Tag, usize>
     ensures tag { result ≡ tag_at (rank_in last) s.now }
     ensures place { IfErr result (λ k. k ≤ length s.now) }

@@ -4,9 +4,9 @@ use Rattle.std.proofs.Common.{rules, tests}
 use Rattle.table.specs.Model.{meant}
 use Rattle.table.specs.States.{state_of}
 use Rattle.table.specs.Verdicts.{robs}
-use Rattle.table.proofs.Lowest.{lowest-found}
+use Rattle.table.proofs.Lowest.{lowest-of-find}
 use Rattle.table.proofs.rows.Table.robbed.Goals as goal
 
 pub returns : goal.returns
 returns c =
-    lowest-found c.args.self.now.actions (robs (meant c.args.self.now) c.args.event (state_of c.args.state.now)) _ _ c.new.ensures.start c.new.ensures.end c.new.ensures.exhausted _ c.find.ensures.ran (λ x b q k. search (rules, tests))
+    lowest-of-find c.args.self.now.actions (robs (meant c.args.self.now) c.args.event (state_of c.args.state.now)) _ _ c.new.ensures.start c.new.ensures.end c.new.ensures.exhausted _ c.find.ensures.ran (λ x b q k. search (rules, tests))
