@@ -28,7 +28,9 @@ fn columns(s: &[u8]) -> Result<u16, usize>
 {
     let mut at = None;
     for i in 0..4 {
-        let b = s.get(i).ok_or(i)?;
+        let Some(b) = s.get(i) else {
+            return Err(i);
+        };
         at = digit(at, i, *b)?;
     }
     at.ok_or(4)
